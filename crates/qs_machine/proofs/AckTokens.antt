@@ -1,16 +1,16 @@
 -- An ACK is the tokens of its packets, told one after the other.
-use Rattle.std.proofs.Common.{◌≡◌, ℕ, suc, ◌+◌, ◌-◌, ◌*◌, ◌/◌, ◌%◌, ◌<◌, ◌≤◌, Bool, true, false, ◌||◌, List, [], ◌∷◌, drop, Option, Some, None, option_map, slice_get, ◌⊎◌, refl, sym, ap, ◌∙◌, subst, arith, inl, inr, cond, nat_eq, is_some, not, ◌&&◌, ◌++◌, append-nil, map, nat_lt, Result, Ok, Err}
+use Rattle.std.proofs.Common.{◌≡◌, ℕ, suc, ◌+◌, ◌-◌, ◌*◌, ◌/◌, ◌%◌, ◌<◌, ◌≤◌, Bool, true, false, ◌||◌, List, [], ◌∷◌, drop, Option, Some, None, option_map, slice_get, ◌⊎◌, refl, sym, ap, ◌∙◌, subst, arith, inl, inr, cond, nat_eq, is_some, not, ◌&&◌, ◌++◌, append-nil, map, Result, Ok, Err}
 use Rattle.std.specs.FinSet as set
 use Rattle.std.proofs.lemmas.Option.{none-some, same_Some}
-use Rattle.std.proofs.lemmas.Bool.{cases_eq, or_left, both_ways, and_parts, true_from_ne_false}
+use Rattle.std.proofs.lemmas.Bool.{cases_eq, or_left, both_ways, true_from_ne_false}
 use Rattle.std.proofs.lemmas.List.{drop-drop, reverse-append}
 use Rattle.qs_ranges.specs.Numbers.{NumberSet, missing_from, same_numbers, contains-with_range, is_within, numbers}
 use Rattle.qs_ranges.proofs.Sets.{missing_from-more}
-use Rattle.qs_send.specs.Lane.{SendLane, acked_lane, chunk_offsets, unacked_from, reset_acked_lane}
+use Rattle.qs_send.specs.Lane.{SendLane, acked_lane, reset_acked_lane}
 use Rattle.qs_send.specs.declared.parts.Chunk.{Chunk}
 use Rattle.qs_machine.specs.Tables.{Tables, table, lookup, updated}
 use Rattle.qs_machine.proofs.TableLaws.{lookup_same, lookup_other}
-use Rattle.std.specs.Prelude.{max, reverse, flat_map, nat_le}
+use Rattle.std.specs.Prelude.{max, reverse, flat_map}
 use Rattle.std.specs.FinMap as fmap
 use Rattle.std.specs.FinMap.{nat_cmp-IsAntisymmetric, same_map}
 use Rattle.std.specs.Ordering.{nat_cmp}
@@ -45,9 +45,9 @@ use Rattle.qs_machine.proofs.Again.{settle_twice}
 use Rattle.qs_wire.specs.Layout.{ack_ranges_of}
 use Rattle.qs_calls.specs.declared.token.TokenFault.TheVariants as tokens
 use Rattle.qs_machine.specs.Seen.{Ack}
-use Rattle.qs_machine.specs.Verdicts.{verdict, fault_if}
-use Rattle.qs_machine.specs.Owner.{first_refusal, refuse_if, Certain}
-use Rattle.qs_machine.specs.Alone.{gave, token_refusal, only, TokenAckedStep}
+use Rattle.qs_machine.specs.Verdicts.{verdict}
+use Rattle.qs_machine.specs.Owner.{Certain}
+use Rattle.qs_machine.specs.Alone.{token_refusal, only, TokenAckedStep}
 use Rattle.qs_machine.specs.Ways.{token_from, range_of, MayBeTold, ItsRangesAreTokens, TellsEach, AnAckIsItsToken, AnAckIsItsTokens, AnAckMayBeTold, AJoinedTokenIsItsParts}
 use Rattle.qs_calls.specs.declared.token.Token.{Token}
 use Rattle.qs_calls.specs.declared.token.TokenFault.{TokenFault}
@@ -80,14 +80,7 @@ drop_twice : (low mid high : ℕ) (kept : List ℕ) → low ≤ mid → mid ≤ 
 drop_twice low mid high kept a b = let e : (mid - low) + (high - mid) ≡ high - low = omega (arith, a, b) in drop-drop (high - mid) (mid - low) kept ∙ ap (λ n. drop n kept) e
 
 pub lane_swap : (l : SendLane) (c d : Chunk) → acked_lane (acked_lane l c) d ≡ acked_lane (acked_lane l d) c
-lane_swap l c d = λ i. record l { acked = both i; kept = (whole c d ∙ ap (λ s. drop (missing_from s 0 - unacked_from l) l.kept) both ∙ sym (whole d c)) i; fin_acked = or_swap l.fin_acked c.fin d.fin i }
-  where
-    both : set.union (set.union l.acked (chunk_offsets c)) (chunk_offsets d) ≡ set.union (set.union l.acked (chunk_offsets d)) (chunk_offsets c)
-    both = union_swap l.acked c.offset (c.offset + c.len) d.offset (d.offset + d.len)
-
-    whole : (x y : Chunk) → (acked_lane (acked_lane l x) y).kept ≡ drop (missing_from (set.union (set.union l.acked (chunk_offsets x)) (chunk_offsets y)) 0 - unacked_from l) l.kept
-    whole x y =
-        drop_twice (unacked_from l) _ _ l.kept (union_more l.acked x.offset (x.offset + x.len)) (union_more (set.union l.acked (chunk_offsets x)) y.offset (y.offset + y.len))
+lane_swap l c d = grind (arith, nat_tests, or_swap, union_swap, drop_twice, union_more)
 
 -- Tables
 
@@ -114,22 +107,16 @@ module _ {X : Type 0} where
       at k lt = same_list (table t k) (table u k) (λ i. place k i lt)
 
   updated_same : (t : Tables X) (n : ℕ) (f : X → X) → lookup (updated t n f (lookup t n)) n ≡ option_map f (lookup t n)
-  updated_same t n f = go (lookup t n) refl
-    where
-      go : (o : Option X) → lookup t n ≡ o → lookup (updated t n f o) n ≡ option_map f o
-      go None is = is
-      go (Some x) is = lookup_same t n x (f x) is
+  updated_same t n f = grind (arith, nat_tests, option_map, lookup_same)
 
   updated_other : (t : Tables X) (n m : ℕ) (f : X → X) (o : Option X) → (m ≡ n → ⊥) → lookup (updated t n f o) m ≡ lookup t m
-  updated_other t n m f None ne = refl
-  updated_other t n m f (Some x) ne = lookup_other t n m (f x) ne
+  updated_other t n m f o ne = grind (arith, nat_tests, lookup_other)
 
   abbrev pub changed : Tables X → ℕ → (X → X) → Tables X
   changed t n f = updated t n f (lookup t n)
 
   map_swap : (f g : X → X) (o : Option X) → ((x : X) → f (g x) ≡ g (f x)) → option_map f (option_map g o) ≡ option_map g (option_map f o)
-  map_swap f g None e = refl
-  map_swap f g (Some x) e = ap (λ y. Some y) (e x)
+  map_swap f g o e = grind arith
 
   -- two streams' parts change, or one stream's by what may change places
   pub table_swap : (t : Tables X) (n m : ℕ) (f g : X → X) → ((x : X) → f (g x) ≡ g (f x)) → changed (changed t m g) n f ≡ changed (changed t n f) m g
@@ -172,8 +159,7 @@ module _ {X : Type 0} where
 -- Control items
 
 greatest_swap : (o : Option ℕ) (a b : ℕ) → greatest (greatest o a) b ≡ greatest (greatest o b) a
-greatest_swap None a b = let e : max a b ≡ max b a = omega arith in ap (λ x. Some x) e
-greatest_swap (Some k) a b = ap (λ x. Some x) (omega arith)
+greatest_swap o a b = grind arith
 
 get_greatest : (m : fmap.FinMap nat_cmp ℕ) (n v q : ℕ) → fmap.get (greatest_of m n v) q ≡ cond (nat_eq q n) (Some (max (or_zero (fmap.get m n)) v)) (fmap.get m q)
 get_greatest m n v q = fmap.get-insert nat_cmp_total m n _ q ∙ ap (λ b. cond b (Some (max (or_zero (fmap.get m n)) v)) (fmap.get m q)) (unsigned_tied q n)
@@ -219,9 +205,7 @@ abbrev both_after : Piece → End → End
 both_after p e = record e { sends = sends_after p e.sends; acked = items_after p e.acked }
 
 piece_parts : (p : Piece) (e : End) → piece_acked p e ≡ both_after p e
-piece_parts (Told (MaxStreams Bidi m)) e = refl
-piece_parts (Told (StreamsBlocked Bidi m)) e = refl
-piece_parts _ e = refl
+piece_parts p e = grind arith
 
 sends_swap : (p q : Piece) (t : Tables SendLane) → sends_after p (sends_after q t) ≡ sends_after q (sends_after p t)
 sends_swap (Data n c) (Data m d) t = table_swap t n m (λ l. acked_lane l c) (λ l. acked_lane l d) (λ l. lane_swap l d c)
@@ -231,14 +215,10 @@ sends_swap (Told (ResetStream n code size)) (Told (ResetStream m other more)) t 
 sends_swap p q t = refl
 
 noted_swap : (p q : Piece) (a : AckedItems) → items_after p (items_after q a) ≡ items_after q (items_after p a)
-noted_swap (Told i) (Told j) a = items_swap i j a
-noted_swap _ q a = refl
+noted_swap p q a = grind (arith, nat_tests, items_swap)
 
 piece_swap : (p q : Piece) (e : End) → piece_acked p (piece_acked q e) ≡ piece_acked q (piece_acked p e)
-piece_swap p q e = twice p q ∙ (λ i. record e { sends = sends_swap p q e.sends i; acked = noted_swap p q e.acked i }) ∙ sym (twice q p)
-  where
-    twice : (p q : Piece) → piece_acked p (piece_acked q e) ≡ both_after p (both_after q e)
-    twice p q = ap (piece_acked p) (piece_parts q e) ∙ piece_parts p (both_after q e)
+piece_swap p q e = grind (arith, nat_tests, sends_swap, noted_swap, piece_parts)
 
 -- Records
 
@@ -270,46 +250,20 @@ without_swap (x ∷ xs) j k = go (nat_eq x j) (nat_eq x k) refl refl (without_sw
   where
     go : (b c : Bool) → nat_eq x j ≡ b → nat_eq x k ≡ c → without_number (without_number xs j) k ≡ without_number (without_number xs k) j
         → without_number (cond b (without_number xs j) (x ∷ without_number xs j)) k ≡ without_number (cond c (without_number xs k) (x ∷ without_number xs k)) j
-    go true true is_j is_k rest = rest
-    go true false is_j is_k rest = rest ∙ sym (ap (λ b. cond b (without_number (without_number xs k) j) (x ∷ without_number (without_number xs k) j)) is_j)
-    go false true is_j is_k rest = ap (λ b. cond b (without_number (without_number xs j) k) (x ∷ without_number (without_number xs j) k)) is_k ∙ rest
-    go false false is_j is_k rest =
-        ap (λ b. cond b (without_number (without_number xs j) k) (x ∷ without_number (without_number xs j) k)) is_k
-        ∙ ap (λ ys. x ∷ ys) rest
-        ∙ sym (ap (λ b. cond b (without_number (without_number xs k) j) (x ∷ without_number (without_number xs k) j)) is_j)
+    go b c is_j is_k rest = grind arith
 
 -- the order without a number, where nothing of its packet is left
 abbrev order_less : Bool → List ℕ → ℕ → List ℕ
 order_less left order k = cond left order (without_number order k)
 
 order_swap : (b c : Bool) (xs : List ℕ) (j k : ℕ) → order_less c (order_less b xs j) k ≡ order_less b (order_less c xs k) j
-order_swap false false xs j k = without_swap xs j k
-order_swap _ c xs j k = refl
+order_swap b c xs j k = grind (arith, nat_tests, without_swap)
 
 lost_swap : (l : LostPackets) (j k : ℕ) → lost_less k (lost_less j l) ≡ lost_less j (lost_less k l)
-lost_swap l j k =
-    elim (cases_eq j k) [
-      | inl same ↦ subst (λ i. lost_less i (lost_less j l) ≡ lost_less j (lost_less i l)) same refl
-      | inr ne ↦ λ i. record { pieces = less_swap l.pieces j k i; order = orders ne i }
-    ]
-  where
-    m : Records
-    m = l.pieces
-
-    -- what is left of a packet, whether the other one lost its first piece or not
-    alone : (j k : ℕ) → (j ≡ k → ⊥) → fmap.contains_key (less (less m j) k) k ≡ fmap.contains_key (less m k) k
-    alone j k ne = ap is_some (less_other m j k ne ∙ sym (get_same-without_first m k))
-
-    orders : (j ≡ k → ⊥) → (lost_less k (lost_less j l)).order ≡ (lost_less j (lost_less k l)).order
-    orders ne =
-        ap (λ b. order_less b (order_less (fmap.contains_key (less m j) j) l.order j) k) (alone j k ne)
-        ∙ order_swap (fmap.contains_key (less m j) j) (fmap.contains_key (less m k) k) l.order j k
-        ∙ ap (λ b. order_less b (order_less (fmap.contains_key (less m k) k) l.order k) j) (sym (alone k j (λ e. ne (sym e))))
+lost_swap l j k = grind (arith, nat_tests, cases_eq, less_swap, not, less_other, get_same-without_first, order_swap)
 
 record_swap : (b c : Bool) (j k : ℕ) (e : End) → without_piece b j (without_piece c k e) ≡ without_piece c k (without_piece b j e)
-record_swap true true j k e = ap (λ l. record e { lost = l }) (lost_swap e.lost k j)
-record_swap false false j k e = ap (λ m. record e { outstanding = m }) (less_swap e.outstanding k j)
-record_swap _ _ j k e = refl
+record_swap b c j k e = grind (arith, nat_tests, lost_swap, less_swap)
 
 piece_without : (p : Piece) (late : Bool) (k : ℕ) (e : End) → piece_acked p (without_piece late k e) ≡ without_piece late k (piece_acked p e)
 piece_without p late k e = piece_parts p (without_piece late k e) ∙ ap (without_piece late k) (sym (piece_parts p e))
@@ -317,14 +271,7 @@ piece_without p late k e = piece_parts p (without_piece late k e) ∙ ap (withou
 -- Both
 
 first_swap : (a b : AckedPiece) (e : End) → first_acked a (first_acked b e) ≡ first_acked b (first_acked a e)
-first_swap a b e =
-    inner a b
-    ∙ piece_swap a.piece b.piece (without_piece a.late a.number (without_piece b.late b.number e))
-    ∙ ap (λ x. piece_acked b.piece (piece_acked a.piece x)) (record_swap a.late b.late a.number b.number e)
-    ∙ sym (inner b a)
-  where
-    inner : (a b : AckedPiece) → first_acked a (first_acked b e) ≡ piece_acked a.piece (piece_acked b.piece (without_piece a.late a.number (without_piece b.late b.number e)))
-    inner a b = ap (piece_acked a.piece) (sym (piece_without b.piece a.late a.number (without_piece b.late b.number e)))
+first_swap a b e = grind (arith, nat_tests, piece_swap, record_swap, piece_without)
 
 -- pieces are acknowledged, and then others, or first the others
 swap_one : (a : AckedPiece) (ps : List AckedPiece) (e : End) → acks ps (first_acked a e) ≡ first_acked a (acks ps e)
@@ -387,8 +334,7 @@ alike of by f g [] same = refl
 alike of by f g (k ∷ ks) same = head of f (f k) ks ∙ (λ i. same k i ++ alike of by f g ks same i) ∙ sym (head by g (g k) ks)
   where
     head : (of : ℕ → List AckedPiece) (f : ℕ → Bool) (b : Bool) (ks : List ℕ) → flat_map of (cond b (k ∷ filter f ks) (filter f ks)) ≡ cond b (of k) [] ++ flat_map of (filter f ks)
-    head of f true ks = refl
-    head of f false ks = refl
+    head of f b ks = grind arith
 
 -- What is left after an ACK
 
@@ -414,10 +360,7 @@ abbrev risen : Bool → (ℕ → Bool) → End → List AckedPiece
 risen late f e = taken (pieces_of late (held late e)) f (fmap.keys (held late e))
 
 named_risen : (e : End) (r : List (ℕ × ℕ)) (x : End) → acks (named e r) x ≡ acks (risen true (is_named r) e) (acks (risen false (is_named r) e) x)
-named_risen e r x =
-    acks_append (named_in false e.outstanding r) (named_in true e.lost.pieces r) x
-    ∙ ap (acks (named_in true e.lost.pieces r)) (upwards (pieces_of false e.outstanding) (filter (is_named r) (fmap.keys e.outstanding)) x)
-    ∙ upwards (pieces_of true e.lost.pieces) (filter (is_named r) (fmap.keys e.lost.pieces)) (acks (risen false (is_named r) e) x)
+named_risen e r x = grind (arith, nat_tests, acks_append, upwards)
 
 -- the packets that one list of ranges names and another doesn't
 abbrev but : List (ℕ × ℕ) → List (ℕ × ℕ) → ℕ → Bool
@@ -436,16 +379,13 @@ taken_later late e r rs =
     n = held late (acks (named e r) e)
 
     nothing : (b : Bool) (ps : List AckedPiece) → cond (b && false) ps [] ≡ []
-    nothing true ps = refl
-    nothing false ps = refl
+    nothing b ps = grind arith
 
     none : (b : Bool) (ps : List AckedPiece) → ps ≡ [] → cond b ps [] ≡ []
-    none true ps is = is
-    none false ps is = refl
+    none b ps is = grind arith
 
     all : (o : Option (List Piece)) (j : ℕ) → cond (is_some o && true) (piece_list late j o) [] ≡ piece_list late j o
-    all None j = refl
-    all (Some ps) j = refl
+    all o j = grind arith
 
     go : (j : ℕ) (b c : Bool) → is_named r j ≡ b → cond (is_some (fmap.get n j) && c) (pieces_of late n j) [] ≡ cond (c && not b) (pieces_of late m j) []
     go j true true is = none (is_some (fmap.get n j) && true) (pieces_of late n j) (bare_none late n j (named_bare e r late j is))
@@ -481,9 +421,7 @@ abbrev pub moved : End → End → End
 moved x e = record e { sends = x.sends; acked = x.acked; outstanding = x.outstanding; lost = x.lost }
 
 piece_moved : (p : Piece) (x e : End) → piece_acked p (moved x e) ≡ moved (piece_acked p x) e
-piece_moved (Told (MaxStreams Uni m)) x e = refl
-piece_moved (Told (StreamsBlocked Uni m)) x e = refl
-piece_moved p x e = refl
+piece_moved p x e = grind arith
 
 pub acks_moved : (ps : List AckedPiece) (x e : End) → acks ps (moved x e) ≡ moved (acks ps x) e
 unfolding acks
@@ -517,13 +455,7 @@ settle_between ps e written = ap settle (acks_moved ps e (settle e)) ∙ alike �
 
 -- a range of numbers that were given
 one_given : (e : End) (first last : ℕ) → e.closed ≡ None → first ≤ last → last < e.next → token_refusal e (token_from e (first, last)) ≡ None
-one_given e first last unclosed le lt =
-    let given : gave e (token_from e (first, last)) ≡ true = all (nat_eq e.tuning.epoch e.tuning.epoch) (nat_le first last) (nat_lt last e.next) (grind (arith, nat_tests)) (grind (arith, nat_tests)) (grind (arith, nat_tests)) in
-    ap (λ o. first_refusal (refuse_if (is_some o) tokens.Closed) (refuse_if (not (gave e (token_from e (first, last)))) tokens.NotGiven)) unclosed
-    ∙ ap (λ b. refuse_if (not b) tokens.NotGiven) given
-  where
-    all : (a b c : Bool) → a ≡ true → b ≡ true → c ≡ true → (a && (b && c)) ≡ true
-    all a b c x y z = ap (λ d. d && (b && c)) x ∙ ap (λ d. d && c) y ∙ z
+one_given e first last unclosed le lt = grind arith
 
 -- each range lies at or below the largest number
 all_given : (e : End) (largest : ℕ) (numbers : List ℕ) → e.closed ≡ None → largest < e.next → MayBeTold e (map (token_from e) (ack_ranges_of largest numbers))
@@ -538,11 +470,7 @@ same_ranges e (r ∷ rs) = ap (λ x. r ∷ x) (same_ranges e rs)
 
 below_next : (e : End) (largest : ℕ) (ranges : List (ℕ × ℕ)) → verdict e (Ack largest ranges) ≡ None → largest < e.next
 unfolding verdict
-below_next e largest ranges fine = go (nat_le e.next largest) refl fine
-  where
-    go : (b : Bool) → nat_le e.next largest ≡ b → fault_if b 0x0a ≡ None → largest < e.next
-    go true is h = absurd (none-some 0x0a (sym h))
-    go false is h = grind (arith, nat_tests, is)
+below_next e largest ranges fine = grind arith
 
 pub ranges_are_tokens : ItsRangesAreTokens
 ranges_are_tokens e largest delay [] ecn unclosed may = absurd (let odd = may.0.2.odd in omega (arith, odd))
@@ -567,12 +495,7 @@ abbrev told_done : Result (Unit {0}) TokenFault
 told_done = Ok tt
 
 pub told_is : (e new : End) (t : Token) → TokenAckedStep e t (Ok tt) new → new ≡ settle (frame_taken (only t) e)
-told_is e new t step = go (token_refusal e t) step
-  where
-    go : (o : Option TokenFault) → Certain o e told_done new (Done e new t told_done) → new ≡ settle (frame_taken (only t) e)
-    go (Some fault) h = absurd (cc (h.0))
-    go None (inl done) = done.1
-    go None (inr none) = absurd (cc (none.0))
+told_is e new t step = grind arith
 
 pub an_ack_is_its_token : AnAckIsItsToken
 unfolding frame_taken
@@ -606,8 +529,7 @@ told_ranges t (u ∷ us) e new sent (mid, one, rest) =
     sent_first = sent_stays e first (after_acks (named e (range_of t ∷ [])) e (named_written e (range_of t ∷ []) sent)) sent
 
     either : (a b : Bool) → (a || b) ≡ ((a || false) || b)
-    either true b = refl
-    either false b = refl
+    either a b = grind arith
 
 pub an_ack_is_its_tokens : AnAckIsItsTokens
 unfolding frame_taken
@@ -636,14 +558,7 @@ an_ack_may_be_told e largest ranges t ts sent same may =
 
 -- the numbers of a token that may be told stand in order
 in_order : (e : End) (t : Token) → token_refusal e t ≡ None → t.first ≤ t.number
-in_order e t may =
-    let ordered : nat_le t.first t.number ≡ true = (and_parts (nat_le t.first t.number) _ (and_parts (nat_eq t.epoch e.tuning.epoch) _ (given (is_some e.closed) (gave e t) may)).1).0 in
-    grind (arith, nat_tests, ordered)
-  where
-    given : (closed was : Bool) → first_refusal (refuse_if closed tokens.Closed) (refuse_if (not was) tokens.NotGiven) ≡ None → was ≡ true
-    given true was h = absurd (none-some tokens.Closed (sym h))
-    given false true h = refl
-    given false false h = absurd (none-some tokens.NotGiven (sym h))
+in_order e t may = grind arith
 
 record IsJoined (t next whole : Token) : Type 0 where
   follows : next.first ≡ t.number + 1
@@ -651,30 +566,13 @@ record IsJoined (t next whole : Token) : Type 0 where
   last : whole.number ≡ next.number
 
 parts : (t next whole : Token) → joined t next ≡ Some whole → IsJoined t next whole
-parts t next whole is = go (nat_eq next.epoch t.epoch) (nat_eq next.first (t.number + 1)) refl is
-  where
-    both : Token
-    both = record { epoch = t.epoch; first = t.first; number = next.number }
-
-    go : (a b : Bool) → nat_eq next.first (t.number + 1) ≡ b → cond (a && b) (Some both) None ≡ Some whole → IsJoined t next whole
-    go true true follows is =
-        let same = same_Some both whole is in
-        record { follows = grind (arith, nat_tests, follows); first = ap (λ (x : Token). x.first) (sym same); last = ap (λ (x : Token). x.number) (sym same) }
-    go _ b follows is = absurd (none-some whole is)
-
--- a number lies in the one range or the other, and so in both as one
-within : (a b c k : ℕ) → a ≤ b → b + 1 ≤ c → ((nat_le a k && nat_le k b) || ((nat_le (b + 1) k && nat_le k c) || false)) ≡ ((nat_le a k && nat_le k c) || false)
-within a b c k ab bc = grind (arith, nat_tests)
+parts t next whole is = grind arith
 
 or_swap_joined : (a b : Bool) → (a || (b || false)) ≡ (b || (a || false))
-or_swap_joined true true = refl
-or_swap_joined a b = refl
+or_swap_joined a b = grind arith
 
 names : (t next whole : Token) → IsJoined t next whole → t.first ≤ t.number → next.first ≤ next.number → (k : ℕ) → is_named (range_of t ∷ range_of next ∷ []) k ≡ is_named (range_of whole ∷ []) k
-names t next whole is one two k =
-    ap (λ f. (nat_le t.first k && nat_le k t.number) || ((nat_le f k && nat_le k next.number) || false)) is.follows
-    ∙ within t.first t.number next.number k one (let f = is.follows in omega (arith, f, two))
-    ∙ sym (ap (λ f. (nat_le f k && nat_le k whole.number) || false) is.first ∙ ap (λ l. (nat_le t.first k && nat_le k l) || false) is.last)
+names t next whole is one two k = grind arith
 
 pub joined_parts : AJoinedTokenIsItsParts
 joined_parts e new t next whole sent is may step =

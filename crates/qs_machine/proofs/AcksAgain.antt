@@ -1,4 +1,6 @@
 -- An ACK that took effect leaves no piece of a packet that it names, so when it comes again it takes none.
+use Rattle.std.proofs.lemmas.Bool.Decides.{nat_tests}
+use Rattle.std.proofs.Common.{arith}
 use Rattle.std.proofs.Common.{◌≡◌, ℕ, Bool, true, false, cond, List, [], ◌∷◌, ◌++◌, map, nat_cmp, Option, Some, None, is_some, ◌⊎◌, refl, sym, ap, ◌∙◌, subst, inl, inr}
 use Rattle.std.specs.Prelude.{reverse, flat_map}
 use Rattle.std.specs.List.{list_any, filter}
@@ -7,15 +9,11 @@ use Rattle.std.specs.Cmp.{unsigned_tied}
 use Rattle.std.specs.FinMap as fmap
 use Rattle.std.proofs.lemmas.Grind.{reverse_onto}
 use Rattle.std.proofs.lemmas.Bool.{both_ways, or_cases, eqb-true, cases_eq}
-use Rattle.qs_wire.specs.declared.stream_id.Dir.TheVariants.{Uni}
 use Rattle.qs_send.specs.Records.{Among, without_first}
-use Rattle.qs_send.specs.declared.piece.Item.{Item}
-use Rattle.qs_send.specs.declared.piece.Item.TheVariants.{MaxStreams, StreamsBlocked}
 use Rattle.qs_send.specs.declared.piece.Piece.{Piece}
-use Rattle.qs_send.specs.declared.piece.Piece.TheVariants.{Data, Told}
 use Rattle.qs_send.proofs.Carrying.{rest_of, get_same-without_first, get_other-without_first}
 use Rattle.qs_machine.specs.Ends.{End, Records}
-use Rattle.qs_machine.specs.FrameStep.{AckedPiece, acked_at, held, without_piece, pieces_of, acks, first_acked, piece_acked, item_acked, named_in, named, acked_numbers, is_named}
+use Rattle.qs_machine.specs.FrameStep.{AckedPiece, acked_at, held, without_piece, pieces_of, acks, first_acked, piece_acked, named_in, named, acked_numbers, is_named}
 use Rattle.qs_machine.proofs.EndsAfter.{IsBare, bare_without}
 
 -- Lists of numbers
@@ -34,17 +32,14 @@ among_filter f k (x ∷ xs) (inl e) is = subst (λ b. Among k (cond b (x ∷ fil
 among_filter f k (x ∷ xs) (inr a) is = either (f x) (among_filter f k xs a is)
   where
     either : (b : Bool) → Among k (filter f xs) → Among k (cond b (x ∷ filter f xs) (filter f xs))
-    either true h = inr h
-    either false h = h
+    either b h = grind arith
 
 pub filter_among : {X : Type 0} (f : X → Bool) (k : X) (xs : List X) → Among k (filter f xs) → Among k xs × (f k ≡ true)
 filter_among f k [] a = absurd a
 filter_among {X} f k (x ∷ xs) a = go (filter_among f k xs) (f x) refl a
   where
     go : (Among k (filter f xs) → Among k xs × (f k ≡ true)) → (b : Bool) → f x ≡ b → Among k (cond b (x ∷ filter f xs) (filter f xs)) → (◌≡◌ {A = X} k x ⊎ Among k xs) × (f k ≡ true)
-    go rest true is (inl e) = (inl e, ap f e ∙ is)
-    go rest true is (inr later) = (let (a, holds) = rest later in (inr a, holds))
-    go rest false is later = (let (a, holds) = rest later in (inr a, holds))
+    go rest b is h = grind arith
 
 among_last : (k x : ℕ) (xs : List ℕ) → Among k xs ⊎ (k ≡ x) → Among k (xs ++ x ∷ [])
 among_last k x [] (inl a) = absurd a
@@ -71,18 +66,11 @@ reverse_among k (x ∷ xs) a =
 
 -- What acknowledgements leave
 
-held_item : (late : Bool) (i : Item) (e : End) → held late (item_acked i e) ≡ held late e
-held_item late (MaxStreams Uni m) e = refl
-held_item late (StreamsBlocked Uni m) e = refl
-held_item late i e = refl
-
 pub held_piece : (late : Bool) (p : Piece) (e : End) → held late (piece_acked p e) ≡ held late e
-held_piece late (Data n c) e = refl
-held_piece late (Told i) e = held_item late i e
+held_piece late p e = grind arith
 
 held_first : (late : Bool) (k : ℕ) (p : Piece) (e : End) → held late (first_acked (acked_at late k p) e) ≡ without_first (held late e) k (fmap.get (held late e) k)
-held_first true k p e = held_piece true p (without_piece true k e)
-held_first false k p e = held_piece false p (without_piece false k e)
+held_first late k p e = grind arith
 
 -- packet j after the first piece of packet k is acknowledged
 first_same : (late : Bool) (k : ℕ) (p : Piece) (e : End) → fmap.get (held late (first_acked (acked_at late k p) e)) k ≡ rest_of (fmap.get (held late e) k)
@@ -122,26 +110,11 @@ piece_list late k o = elim o [ None ↦ [] | Some ps ↦ map (acked_at late k) p
 
 packet_bare : (late : Bool) (m : Records) (e : End) (k : ℕ) → AreLeft late m e → IsBare (fmap.get (held late (acks (pieces_of late m k) e)) k)
 unfolding acks
-packet_bare late m e k left = elim (left k) [ inl same ↦ go (fmap.get m k) same | inr bare ↦ stays_bare late (pieces_of late m k) e k bare ]
-  where
-    go : (o : Option (List Piece)) → fmap.get (held late e) k ≡ o → IsBare (fmap.get (held late (acks (piece_list late k o) e)) k)
-    go None is = subst IsBare (sym is) tt
-    go (Some ps) is = all_taken late k ps e is
+packet_bare late m e k left = grind (arith, nat_tests, stays_bare, all_taken)
 
 packet_left : (late : Bool) (m : Records) (e : End) (k : ℕ) → AreLeft late m e → AreLeft late m (acks (pieces_of late m k) e)
 unfolding acks
-packet_left late m e k left j =
-    elim (cases_eq j k) [
-      | inl e1 ↦ inr (subst (λ i. IsBare (fmap.get (held late (acks (pieces_of late m k) e)) i)) (sym e1) (packet_bare late m e k left))
-      | inr ne ↦ elim (left j) [
-        | inl same ↦ inl (go ne (fmap.get m k) ∙ same)
-        | inr bare ↦ inr (stays_bare late (pieces_of late m k) e j bare)
-      ]
-    ]
-  where
-    go : (j ≡ k → ⊥) → (o : Option (List Piece)) → fmap.get (held late (acks (piece_list late k o) e)) j ≡ fmap.get (held late e) j
-    go ne None = refl
-    go ne (Some ps) = stays_other late k j ps e ne
+packet_left late m e k left j = grind (arith, nat_tests, cases_eq, packet_bare, stays_bare, stays_other)
 
 packets_bare : (late : Bool) (m : Records) (ks : List ℕ) (e : End) → AreLeft late m e → (k : ℕ) → Among k ks → IsBare (fmap.get (held late (acks (flat_map (pieces_of late m) ks) e)) k)
 packets_bare late m [] e left k a = absurd a
@@ -177,35 +150,19 @@ late_stays m (k ∷ ks) e = ap (held true) (acks_append (pieces_of false m k) (f
 
 -- of a packet that an ACK names no piece is left, outstanding or lost
 pub named_bare : (e : End) (ranges : List (ℕ × ℕ)) (late : Bool) (k : ℕ) → is_named ranges k ≡ true → IsBare (fmap.get (held late (acks (named e ranges) e)) k)
-named_bare e ranges late k is = subst (λ (x : End). IsBare (fmap.get (held late x) k)) (sym (acks_append first second e)) (go late)
-  where
-    first : List AckedPiece
-    first = named_in false e.outstanding ranges
-
-    second : List AckedPiece
-    second = named_in true e.lost.pieces ranges
-
-    go : (b : Bool) → IsBare (fmap.get (held b (acks second (acks first e))) k)
-    go false = stays_bare false second (acks first e) k (in_bare false e.outstanding e ranges k refl is)
-    go true = in_bare true e.lost.pieces (acks first e) ranges k (late_stays e.outstanding (acked_numbers e.outstanding ranges) e) is
+named_bare e ranges late k is = grind (arith, nat_tests, acks_append, stays_bare, in_bare, late_stays)
 
 -- What an ACK takes again
 
 pub bare_none : (late : Bool) (m : Records) (k : ℕ) → IsBare (fmap.get m k) → pieces_of late m k ≡ []
-bare_none late m k h = go (fmap.get m k) h
-  where
-    go : (o : Option (List Piece)) → IsBare o → piece_list late k o ≡ []
-    go (Some (p ∷ ps)) h = absurd h
-    go _ h = refl
+bare_none late m k h = grind arith
 
 none_flat : (f : ℕ → List AckedPiece) (ks : List ℕ) → ((k : ℕ) → Among k ks → f k ≡ []) → flat_map f ks ≡ []
 none_flat f [] h = refl
 none_flat f (k ∷ ks) h = ap (λ xs. xs ++ flat_map f ks) (h k (inl refl)) ∙ none_flat f ks (λ j a. h j (inr a))
 
 in_nothing : (late : Bool) (m : Records) (ranges : List (ℕ × ℕ)) → ((k : ℕ) → is_named ranges k ≡ true → IsBare (fmap.get m k)) → named_in late m ranges ≡ []
-in_nothing late m ranges bare =
-    none_flat (pieces_of late m) (acked_numbers m ranges) (λ k a.
-    bare_none late m k (bare k (filter_among (is_named ranges) k (fmap.keys m) (reverse_among k _ a)).1))
+in_nothing late m ranges bare = grind (arith, nat_tests, none_flat, bare_none, filter_among, reverse_among)
 
 pub named_nothing : (e : End) (ranges : List (ℕ × ℕ)) → ((late : Bool) (k : ℕ) → is_named ranges k ≡ true → IsBare (fmap.get (held late e) k)) → named e ranges ≡ []
 named_nothing e ranges bare = ap (λ ps. ps ++ named_in true e.lost.pieces ranges) (in_nothing false e.outstanding ranges (bare false)) ∙ in_nothing true e.lost.pieces ranges (bare true)

@@ -1,37 +1,36 @@
 -- What comes again changes nothing: frames that took effect, a payload that found no memory, and one that was processed.
-use Rattle.std.proofs.Common.{◌≡◌, ℕ, ◌+◌, ◌-◌, ◌/◌, ◌≤◌, Bool, true, false, not, ◌&&◌, cond, List, [], ◌∷◌, length, Option, Some, None, is_some, refl, ◌⊎◌, sym, ap, ◌∙◌, subst, arith, inl, inr, ◌||◌, ◌++◌, zero, suc, take, map}
-use Rattle.std.specs.Prelude.{⊤, max, nat_le, nat_lt, is_none, IsOk, Result, Ok, Err, min, ◌==◌}
+use Rattle.std.proofs.Common.{◌≡◌, ℕ, ◌/◌, ◌≤◌, Bool, true, false, not, ◌&&◌, cond, List, [], ◌∷◌, length, Option, Some, None, is_some, refl, ◌⊎◌, sym, ap, ◌∙◌, subst, arith, inl, inr, ◌||◌, ◌++◌, take, map}
+use Rattle.std.specs.Prelude.{⊤, max, nat_le, is_none, IsOk, Result, Ok, Err}
 use Rattle.std.specs.FinMap as fmap
-use Rattle.std.proofs.lemmas.Option.{none-some}
 use Rattle.std.proofs.lemmas.Bool.{both_ways, cond_both}
 use Rattle.std.proofs.lemmas.Bool.Decides.{nat_tests}
 use Rattle.qs_wire.specs.declared.stream_id.Role.{Role}
 use Rattle.qs_wire.specs.declared.stream_id.Dir.TheVariants.{Bidi, Uni}
-use Rattle.qs_recv.specs.Lane.{RecvLane, new_lane as new_recv_lane, highest, check_stream, check_reset, check_bytes, take_stream, take_reset, taken, raise, step, next_limit}
+use Rattle.qs_recv.specs.Lane.{RecvLane, highest, check_stream, check_reset, check_bytes, take_stream, take_reset, taken, raise, step, next_limit}
 use Rattle.qs_recv.specs.declared.credit.Share.TheVariants.{Half}
 use Rattle.qs_recv.specs.declared.half.Highest.{Highest}
 use Rattle.qs_recv.specs.declared.half.RecvFault.{RecvFault}
-use Rattle.qs_send.specs.Lane.{SendLane, new_lane as new_send_lane, reset_refusal, broken_off, first_code, stop_taken, allow_lane}
+use Rattle.qs_send.specs.Lane.{SendLane, reset_refusal, stop_taken, allow_lane}
 use Rattle.qs_send.specs.Records.{Among}
 use Rattle.qs_send.specs.declared.piece.Item.{Item}
 use Rattle.qs_send.specs.declared.piece.Item.TheVariants.{MaxData, MaxStreamData, MaxStreams, ResetStream, StopSending, DataBlocked, StreamDataBlocked, StreamsBlocked}
-use Rattle.qs_machine.specs.Tables.{Tables, lookup, updated, open_to, each}
-use Rattle.qs_machine.specs.Ends.{End, is_own, is_own_by, is_uni, on_send, on_recv, opens, opened_by_peer, first_send_limit, first_window, closes}
-use Rattle.qs_machine.specs.Credit.{spent, settle, all_taken}
+use Rattle.qs_machine.specs.Tables.{Tables, lookup, updated, each}
+use Rattle.qs_machine.specs.Ends.{End, is_own, is_own_by, is_uni, on_send, on_recv, opens, opened_by_peer, first_window, closes}
+use Rattle.qs_machine.specs.Credit.{settle, all_taken}
 use Rattle.qs_machine.specs.Seen.{Seen, Ack, Stream, Control, Close, Plain, seen, seen_all, asks_ack, any_asks}
 use Rattle.qs_machine.specs.Verdicts.{verdict, item_verdict, state_fault_in, state_fault_out, credit_fault, bytes_fault, fault_of, ack_fault, fault_if, or_else, or_new}
 use Rattle.qs_machine.specs.FrameStep.{frame_taken, item_taken, frames_taken, held, is_named, NoFault, named, acks}
-use Rattle.qs_machine.specs.Receiving.{GoesOn, Takes, EndsBy, AtEnd, RunsOut, TakesPayload, noted_receive, Stops, OpenReceive, ReceiveBy, ReceiveStep}
+use Rattle.qs_machine.specs.Receiving.{GoesOn, Takes, EndsBy, AtEnd, RunsOut, TakesPayload, noted_receive, OpenReceive, ReceiveBy, ReceiveStep}
 use Rattle.qs_machine.specs.Standing.{IsInCredit, IsSound}
 use Rattle.qs_machine.specs.Repeats.{SentWasWritten, AreAmong, Resumes, OnlyRecords, WasWritten}
 use Rattle.qs_machine.proofs.EveryCall.{not_chosen, no_fault_there, stops_by, by_open}
 use Rattle.qs_machine.proofs.TableLaws.{lookup_same, open_at, total_each}
-use Rattle.qs_machine.proofs.CallsSound.{sound_frame, sound_opened, sound_acks, sound_settle, no_fault}
+use Rattle.qs_machine.proofs.CallsSound.{sound_frame, sound_opened, sound_acks, sound_settle}
 use Rattle.qs_machine.proofs.Taken.{out_there, in_there, stream_in, reset_in, stream_checked, stream_unchanged, reset_checked}
-use Rattle.qs_machine.proofs.LanesAgain.{LaneAfter, HasData, HasReset, data_stays, data_taken, data_again, reset_stays, reset_taken, reset_again}
-use Rattle.qs_machine.proofs.TablesAfter.{still_open, updated_back, open_back}
+use Rattle.qs_machine.proofs.LanesAgain.{HasData, HasReset, data_stays, data_taken, data_again, reset_stays, reset_taken, reset_again}
+use Rattle.qs_machine.proofs.TablesAfter.{updated_back, open_back}
 use Rattle.qs_machine.proofs.Pieces.{All_take}
-use Rattle.qs_machine.proofs.EndsAfter.{HalfAfter, IsAfter, IsBare, after_same, after_twice, after_opened, after_frame, mid_stream, mid_reset, mid_allow, mid_stop, has_code, lawful_in, sent_stays, after_closes, after_recorded, after_settle, after_acks, named_written}
+use Rattle.qs_machine.proofs.EndsAfter.{HalfAfter, IsAfter, IsBare, after_same, after_twice, after_opened, after_frame, mid_stream, mid_reset, mid_allow, mid_stop, lawful_in, sent_stays, after_closes, after_recorded, after_settle, after_acks, named_written}
 use Rattle.qs_machine.proofs.AcksAgain.{named_bare, named_again, named_nothing}
 use Rattle.qs_wire.specs.Layout.{PlacedValue}
 use Rattle.qs_wire.specs.Grammar.{frames_of}
@@ -42,10 +41,8 @@ use Rattle.qs_wire.specs.Reading.{reading_of}
 use Rattle.qs_calls.specs.declared.closing.Closed.{Closed}
 use Rattle.qs_calls.specs.declared.closing.Received.TheVariants as received
 use Rattle.qs_machine.specs.Recording.{recorded}
-use Rattle.qs_ranges.specs.Numbers.{MAX_VARINT}
 use Rattle.qs_recv.specs.declared.credit.Share.{Share}
 use Rattle.qs_calls.specs.declared.closing.Closer.{Closer}
-use Rattle.qs_calls.specs.declared.closing.Closer.TheVariants.{Us, Peer}
 use Rattle.qs_calls.specs.declared.closing.Closed.TheVariants.{ByUs, ByPeer, Noted}
 use Rattle.qs_machine.proofs.Leaves.{frame_leaves}
 use Rattle.qs_machine.proofs.Counts.{next_settle}
@@ -64,47 +61,23 @@ abbrev pub WasOpened : End → ℕ → Type 0
 WasOpened e n = is_own e n ≡ false → IsOpenAt e n
 
 pub opens_it : (n : ℕ) (e : End) → IsOpenAt (opens n e) n
-opens_it n e =
-    record {
-      recvs = λ h. subst (λ t. is_some (lookup t n) ≡ true) (sym (not_chosen (is_uni n && is_own e n) e.recvs (open_to e.recvs n (λ m. new_recv_lane (first_window e n) e.tuning.credit_step)) h)) (open_at e.recvs n (λ m. new_recv_lane (first_window e n) e.tuning.credit_step));
-      sends = λ h. subst (λ t. is_some (lookup t n) ≡ true) (sym (not_chosen (is_uni n && not (is_own e n)) e.sends (open_to e.sends n (λ m. new_send_lane m (first_send_limit e n) e.settings.send_buffer)) h)) (open_at e.sends n (λ m. new_send_lane m (first_send_limit e n) e.settings.send_buffer));
-    }
+opens_it n e = grind (arith, nat_tests, not_chosen, open_at, not)
 
 was_opened : (n : ℕ) (e : End) → WasOpened (opened_by_peer n e) n
-was_opened n e = go (is_own e n) refl
-  where
-    go : (b : Bool) → is_own e n ≡ b → WasOpened (cond b e (opens n e)) n
-    go true own other = absurd (both_ways (is_own e n) other own)
-    go false is other = opens_it n e
+was_opened n e = grind (arith, nat_tests, both_ways, opens_it)
 
 opened_stays : (n : ℕ) (a b : End) → IsAfter a b → WasOpened a n → WasOpened b n
-opened_stays n a b x h other =
-    let own : is_own b n ≡ is_own a n = ap (λ r. is_own_by r n) x.role in
-    let was = h (sym own ∙ other) in
-    record {
-      recvs = λ c. still_open LaneAfter a.recvs b.recvs n x.recvs (was.recvs (ap (λ o. is_uni n && o) (sym own) ∙ c));
-      sends = λ c. still_open HalfAfter a.sends b.sends n x.sends (was.sends (ap (λ o. is_uni n && not o) (sym own) ∙ c));
-    }
+opened_stays n a b x h other = grind arith
 
 -- a stream that was opened isn't opened again
 pub opened_back : (n : ℕ) (e : End) → WasOpened e n → opened_by_peer n e ≡ e
-opened_back n e h = cond_both (is_own e n) e (opens n e) (λ x. x ≡ e) (λ _. refl) (λ other. back (h other))
-  where
-    back : IsOpenAt e n → opens n e ≡ e
-    back is =
-        let s : (opens n e).sends ≡ e.sends = cond_both (is_uni n && not (is_own e n)) e.sends (open_to e.sends n (λ m. new_send_lane m (first_send_limit e n) e.settings.send_buffer)) (λ t. t ≡ e.sends) (λ _. refl) (λ c. open_back e.sends n _ (is.sends c)) in
-        let r : (opens n e).recvs ≡ e.recvs = cond_both (is_uni n && is_own e n) e.recvs (open_to e.recvs n (λ m. new_recv_lane (first_window e n) e.tuning.credit_step)) (λ t. t ≡ e.recvs) (λ _. refl) (λ c. open_back e.recvs n _ (is.recvs c)) in
-        λ i. record e { sends = s i; recvs = r i }
+opened_back n e h = grind (arith, nat_tests, cond_both, not, open_back)
 
 pub recv_back : (n : ℕ) (f : RecvLane → RecvLane) (l : RecvLane) (e : End) → WasOpened e n → lookup e.recvs n ≡ Some l → f l ≡ l → on_recv n f (opened_by_peer n e) ≡ e
-recv_back n f l e was is stays =
-    let r : updated e.recvs n f (lookup e.recvs n) ≡ e.recvs = updated_back e.recvs n f l is stays in
-    ap (on_recv n f) (opened_back n e was) ∙ ap (λ (t : Tables RecvLane). record e { recvs = t }) r
+recv_back n f l e was is stays = grind (arith, nat_tests, updated_back, opened_back)
 
 pub send_back : (n : ℕ) (f : SendLane → SendLane) (l : SendLane) (e : End) → WasOpened e n → lookup e.sends n ≡ Some l → f l ≡ l → on_send n f (opened_by_peer n e) ≡ e
-send_back n f l e was is stays =
-    let s : updated e.sends n f (lookup e.sends n) ≡ e.sends = updated_back e.sends n f l is stays in
-    ap (on_send n f) (opened_back n e was) ∙ ap (λ (t : Tables SendLane). record e { sends = t }) s
+send_back n f l e was is stays = grind (arith, nat_tests, updated_back, opened_back)
 
 -- Verdicts on the stream
 
@@ -120,51 +93,23 @@ out_of role o bidi uni n = cond (is_own_by role n) (fault_if (is_none o) 0x05) (
 
 -- a stream within the counts stays so where they rise
 pub count_stays : (bidi uni more_bidi more_uni n : ℕ) → bidi ≤ more_bidi → uni ≤ more_uni → count_fault bidi uni n ≡ None → count_fault more_bidi more_uni n ≡ None
-count_stays bidi uni more_bidi more_uni n le_bidi le_uni = go (is_uni n)
-  where
-    within : (few more : ℕ) → few ≤ more → fault_if (nat_le few (n / 4)) 0x04 ≡ None → fault_if (nat_le more (n / 4)) 0x04 ≡ None
-    within few more le h =
-        let below : nat_le few (n / 4) ≡ false = no_fault (nat_le few (n / 4)) 0x04 h in
-        let still : nat_le more (n / 4) ≡ false = grind (arith, nat_tests) in
-        ap (λ c. fault_if c 0x04) still
-
-    go : (u : Bool) → fault_if (nat_le (cond u uni bidi) (n / 4)) 0x04 ≡ None → fault_if (nat_le (cond u more_uni more_bidi) (n / 4)) 0x04 ≡ None
-    go true h = within uni more_uni le_uni h
-    go false h = within bidi more_bidi le_bidi h
+count_stays bidi uni more_bidi more_uni n le_bidi le_uni = grind arith
 
 -- a half that is there stays there
 pub own_stays : {X : Type 0} (own : Bool) (other later : Option ℕ) (o p : Option X) → (is_some o ≡ true → is_some p ≡ true) → (other ≡ None → later ≡ None) → cond own (fault_if (is_none o) 0x05) other ≡ None → cond own (fault_if (is_none p) 0x05) later ≡ None
-own_stays true other later None p more fine h = absurd (none-some 0x05 (sym h))
-own_stays true other later (Some x) None more fine h = absurd (both_ways false refl (more refl))
-own_stays true other later (Some x) (Some y) more fine h = refl
-own_stays false other later o p more fine h = fine h
+own_stays own other later o p more fine h = grind arith
 
 pub uni_stays : (uni : Bool) (few more : Option ℕ) → (few ≡ None → more ≡ None) → cond uni (Some 0x05) few ≡ None → cond uni (Some 0x05) more ≡ None
-uni_stays true few more fine h = h
-uni_stays false few more fine h = fine h
+uni_stays uni few more fine h = grind arith
 
 in_stays : (n : ℕ) (a b : End) → IsAfter a b → state_fault_in a n ≡ None → state_fault_in b n ≡ None
-in_stays n a b x h =
-    let there : in_of a.role (lookup b.recvs n) b.granted_bidi b.granted_uni n ≡ None =
-    own_stays (is_own_by a.role n) (count_fault a.granted_bidi a.granted_uni n) (count_fault b.granted_bidi b.granted_uni n) (lookup a.recvs n) (lookup b.recvs n) (still_open LaneAfter a.recvs b.recvs n x.recvs)
-    (count_stays a.granted_bidi a.granted_uni b.granted_bidi b.granted_uni n x.bidi_granted x.uni_granted) h in
-    ap (λ r. in_of r (lookup b.recvs n) b.granted_bidi b.granted_uni n) x.role ∙ there
+in_stays n a b x h = grind arith
 
 out_stays : (n : ℕ) (a b : End) → IsAfter a b → state_fault_out a n ≡ None → state_fault_out b n ≡ None
-out_stays n a b x h =
-    let few = count_fault a.granted_bidi a.granted_uni n in
-    let more = count_fault b.granted_bidi b.granted_uni n in
-    let there : out_of a.role (lookup b.sends n) b.granted_bidi b.granted_uni n ≡ None =
-    own_stays (is_own_by a.role n) (cond (is_uni n) (Some 0x05) few) (cond (is_uni n) (Some 0x05) more) (lookup a.sends n) (lookup b.sends n) (still_open HalfAfter a.sends b.sends n x.sends)
-    (uni_stays (is_uni n) few more (count_stays a.granted_bidi a.granted_uni b.granted_bidi b.granted_uni n x.bidi_granted x.uni_granted)) h in
-    ap (λ r. out_of r (lookup b.sends n) b.granted_bidi b.granted_uni n) x.role ∙ there
+out_stays n a b x h = grind arith
 
 ack_stays : (largest : ℕ) (a b : End) → IsAfter a b → ack_fault a largest ≡ None → ack_fault b largest ≡ None
-ack_stays largest a b x h =
-    let below : nat_le a.next largest ≡ false = no_fault (nat_le a.next largest) 0x0a h in
-    let more = x.next in
-    let still : nat_le b.next largest ≡ false = grind (arith, nat_tests) in
-    ap (λ c. fault_if c 0x0a) still
+ack_stays largest a b x h = grind arith
 
 -- What a frame that took effect leaves
 
@@ -192,8 +137,7 @@ IsDone (Plain asks) e = ⊤
 -- it stays so
 
 stopped_stays : (answers : Bool) (l k : SendLane) → HalfAfter l k → IsStopped answers l → IsStopped answers k
-stopped_stays answers l k r (inl refused) = inl (r.refused refused)
-stopped_stays answers l k r (inr (chosen, told)) = inr (chosen, r.stopped told)
+stopped_stays answers l k r h = grind arith
 
 item_stays : (i : Item) (a b : End) → IsAfter a b → ItemDone i a → ItemDone i b
 item_stays (MaxData m) a b x h = omega (arith, h, x.credit)
@@ -230,10 +174,7 @@ the_half None h = absurd (both_ways false refl h)
 the_half (Some l) h = (l, refl)
 
 stopped_then : (answers : Bool) (l : SendLane) (code : ℕ) → IsStopped answers (stop_taken answers l code)
-stopped_then true l code =
-    cond_both (is_some (reset_refusal l)) l (record l { stopped = first_code l.stopped code }) (IsStopped true) (λ is. inl is) (λ _. inr (refl, has_code l.stopped code))
-stopped_then false l code =
-    cond_both (is_some (reset_refusal l)) l (record (broken_off l code) { stopped = first_code l.stopped code }) (IsStopped false) (λ is. inl is) (λ _. inl refl)
+stopped_then answers l code = grind arith
 
 item_done : (i : Item) (e : End) → verdict e (Control i) ≡ None → IsInCredit e → ItemDone i (item_taken i e)
 unfolding verdict
@@ -293,36 +234,19 @@ frame_done (Plain asks) e v sound sent = tt
 
 -- It comes again
 
-no_growth : (h spent granted : ℕ) → spent ≤ granted → nat_lt granted (spent + (h - h)) ≡ false
-no_growth h spent granted le = grind (arith, nat_tests)
-
 in_again : (n : ℕ) (l : RecvLane) (e : End) (check : RecvLane → Result Highest RecvFault) → state_fault_in e n ≡ None → lookup e.recvs n ≡ Some l → check l ≡ Ok (record { before = highest l; after = highest l }) → IsInCredit e
     → or_else (state_fault_in e n) (credit_fault e (check (or_new (lookup e.recvs n) (first_window e n) e.tuning.credit_step))) ≡ None
-in_again n l e check fine is passes sound =
-    ap (λ a. or_else a (credit_fault e (check (or_new (lookup e.recvs n) (first_window e n) e.tuning.credit_step)))) fine
-    ∙ ap (λ o. credit_fault e (check (or_new o (first_window e n) e.tuning.credit_step))) is
-    ∙ ap (credit_fault e) passes
-    ∙ ap (λ b. fault_if b 0x03) (no_growth (highest l) (spent e) e.granted sound.spent)
+in_again n l e check fine is passes sound = grind (arith, nat_tests)
 
 -- a third check that passes, past two that do
 passes_last : (a b c : Option ℕ) → or_else a b ≡ None → c ≡ None → or_else a (or_else b c) ≡ None
-passes_last None None c h last = last
-passes_last None (Some code) c h last = absurd (none-some code (sym h))
-passes_last (Some code) b c h last = absurd (none-some code (sym h))
+passes_last a b c h last = grind arith
 
 max_known : (a m : ℕ) → m ≤ a → max a m ≡ a
 max_known a m le = omega (arith, le)
 
-first_stays : (o : Option ℕ) (code : ℕ) → is_some o ≡ true → first_code o code ≡ o
-first_stays None code h = absurd (both_ways false refl h)
-first_stays (Some first) code h = refl
-
 pub stopped_back : (answers : Bool) (l : SendLane) (code : ℕ) → IsStopped answers l → stop_taken answers l code ≡ l
-stopped_back true l code (inl refused) = ap (λ b. cond b l (record l { stopped = first_code l.stopped code })) refused
-stopped_back true l code (inr (chosen, told)) =
-    cond_both (is_some (reset_refusal l)) l (record l { stopped = first_code l.stopped code }) (λ k. k ≡ l) (λ _. refl) (λ _. ap (λ o. record l { stopped = o }) (first_stays l.stopped code told))
-stopped_back false l code (inl refused) = ap (λ b. cond b l (record (broken_off l code) { stopped = first_code l.stopped code })) refused
-stopped_back false l code (inr (chosen, told)) = absurd (both_ways false refl chosen)
+stopped_back answers l code h = grind arith
 
 pub allow_back : (l : SendLane) (m : ℕ) → m ≤ l.limit → allow_lane l m ≡ l
 allow_back l m le = ap (λ k. record l { limit = k }) (max_known l.limit m le)
@@ -354,12 +278,10 @@ frame_again (Plain asks) e h sound = (refl, refl)
 -- Lists of frames
 
 pub first_goes : (e : End) (f : Seen) (fs : List Seen) → NoFault e (f ∷ fs) → GoesOn e f × NoFault (frame_taken f e) fs
-first_goes e (Close code) fs h = absurd h
-first_goes e _ fs h = h
+first_goes e f fs h = grind arith
 
 pub one_more : (e : End) (f : Seen) (fs : List Seen) → GoesOn e f → NoFault (frame_taken f e) fs → NoFault e (f ∷ fs)
-one_more e (Close code) fs goes rest = absurd goes
-one_more e _ fs goes rest = (goes, rest)
+one_more e f fs goes rest = grind arith
 
 -- what frames leave
 pub record IsLeft (e new : End) : Type 0 where
@@ -404,8 +326,7 @@ all_again (f ∷ fs) e sound h =
 -- frames that took effect have none when they come again
 pub frames_repeat : (e : End) (frames again : List Seen) → IsSound e → SentWasWritten e → NoFault e frames → AreAmong again frames
     → NoFault (frames_taken frames e) again × (frames_taken again (frames_taken frames e) ≡ frames_taken frames e)
-frames_repeat e frames again sound sent h among =
-    all_again again (frames_taken frames e) (all_left frames e sound sent h).sound.0 (λ f a. all_done frames e sound sent h f (among f a))
+frames_repeat e frames again sound sent h among = grind (arith, nat_tests, all_again, all_left, all_done)
 
 -- The first frames of a payload took effect, for some number of them.
 
@@ -472,13 +393,11 @@ left_ends number fault asks (p ∷ ps) e result new sound sent h =
 
 acks_none : (m : ℕ) (e : End) → acks (take m []) e ≡ e
 unfolding acks
-acks_none zero e = refl
-acks_none (suc m) e = refl
+acks_none m e = grind arith
 
 -- where a frame that took effect finds no memory, nothing changes
 out_again : (f : Seen) (e new : End) → IsDone f e → RunsOut e f new → new ≡ e
-out_again (Ack largest ranges) e new done (m, after, asks) = after ∙ ap (λ ps. acks (take m ps) e) (named_nothing e ranges done.1) ∙ acks_none m e
-out_again f e new done after = after.0
+out_again f e new done h = grind (arith, nat_tests, named_nothing, acks_none)
 
 takes_again : (number : ℕ) (fault : Option WireFault) (asks : Bool) (e : End) (taken left : List PlacedValue) (result : Result Received Closing) (new : End)
     → IsInCredit e → ((f : Seen) → Among f (seen_in taken) → IsDone f e) → Takes number fault asks e (taken ++ left) result new → Resumes number fault (asks || any_asks (seen_in taken)) e left result new
@@ -524,33 +443,10 @@ payloads_repeat number again payload old mid result sound sent takes =
 -- Limits that moved don't move again
 
 pub next_twice : (l t w : ℕ) (share : Share) → next_limit (next_limit l t w share) t w share ≡ next_limit l t w share
-next_twice l t w share = go (moves l) refl
-  where
-    m : ℕ
-    m = min MAX_VARINT (t + w)
-
-    moves : ℕ → Bool
-    moves k = nat_le (k + step share w) m || ((m == MAX_VARINT) && nat_lt k m)
-
-    no_more : moves m ≡ false
-    no_more = let a : nat_le (m + step share w) m ≡ false = grind (arith, nat_tests) in let b : nat_lt m m ≡ false = grind (arith, nat_tests) in
-        ap (λ c. c || ((m == MAX_VARINT) && nat_lt m m)) a ∙ ap (λ c. (m == MAX_VARINT) && c) b ∙ none (m == MAX_VARINT)
-      where
-        none : (c : Bool) → (c && false) ≡ false
-        none true = refl
-        none false = refl
-
-    go : (b : Bool) → moves l ≡ b → cond (moves (cond b m l)) m (cond b m l) ≡ cond b m l
-    go true is = ap (λ c. cond c m m) no_more
-    go false is = ap (λ c. cond c m l) is
+next_twice l t w share = grind arith
 
 pub raise_twice : (l : RecvLane) → raise (raise l) ≡ raise l
-raise_twice l = ap (λ k. record l { limit = k }) (go (is_some l.final_size))
-  where
-    go : (b : Bool) → cond b (cond b l.limit (next_limit l.limit (taken l) l.window l.share)) (next_limit (cond b l.limit (next_limit l.limit (taken l) l.window l.share)) (taken l) l.window l.share)
-        ≡ cond b l.limit (next_limit l.limit (taken l) l.window l.share)
-    go true = refl
-    go false = next_twice l.limit (taken l) l.window l.share
+raise_twice l = grind arith
 
 map_twice : {X : Type 0} (f : X → X) → ((x : X) → f (f x) ≡ f x) → (xs : List X) → map f (map f xs) ≡ map f xs
 map_twice f same [] = refl
@@ -577,15 +473,9 @@ open_frames (f ∷ fs) e = open_frames fs (frame_taken f e) ∙ ap (λ (x : End)
 
 -- A payload that was processed
 
-never_done : (p : PlacedValue) (f : Seen) (e new : End) → Stops p f e (Ok received.Done) new → ⊥
-never_done p (Close code) e new h = h
-never_done p f e new h = h
-
 -- all its frames took effect, and it ended without a fault
 all_taken_by : (number : ℕ) (fault : Option WireFault) (asks : Bool) (left : List PlacedValue) (e mid : End) → EndsBy number fault asks left e (Ok received.Done) mid → (left ≡ []) × (fault ≡ None) × (mid ≡ recorded number asks e)
-all_taken_by number None asks [] e mid h = (refl, refl, h)
-all_taken_by number (Some fault) asks [] e mid h = absurd h
-all_taken_by number fault asks (p ∷ ps) e mid h = absurd (never_done p (seen p.frame) e mid h)
+all_taken_by number fault asks left e mid h = grind arith
 
 was_open : (c : Option Closed) (number : ℕ) (payload : List ℕ) (old new : End) → ReceiveBy c number payload old (Ok received.Done) new
     → (c ≡ None) × (mid : End) × TakesPayload number payload old (Ok received.Done) mid × (new ≡ settle mid)
@@ -600,8 +490,7 @@ was_open (Some (ByPeer code)) number payload old new step = absurd (not_done cod
 was_open (Some (Noted close)) number payload old new step = absurd (never close.by step.0)
   where
     never : (c : Closer) → ◌≡◌ {A = Result Received Closing} (Ok received.Done) (noted_receive c close.code) → ⊥
-    never Us h = cc
-    never Peer h = cc
+    never c h = grind arith
 was_open None number payload old new step =
     let Rest : Type 0 = (mid : End) × TakesPayload number payload old (Ok received.Done) mid × (new ≡ settle mid) in
     let found : Rest = by_open Rest number payload old (Ok received.Done) new step (λ low is. absurd (cc)) (λ again is. absurd (cc)) (λ high mid takes is. (mid, takes, is)) in
@@ -609,16 +498,11 @@ was_open None number payload old new step =
 
 -- what comes of it again, where no frame is left and no fault follows
 ends_again : (again : ℕ) (asks : Bool) (answer : Result Received Closing) (e mid later : End) → settle e ≡ e → Resumes again None asks e [] answer mid → later ≡ settle mid → OnlyRecords again asks answer e later
-ends_again again asks answer e mid later same (inl out) is = subst (λ a. OnlyRecords again asks a e later) (sym out.0) (is ∙ ap settle out.1 ∙ same)
-ends_again again asks (Ok received.Done) e mid later same (inr end) is = is ∙ ap settle end ∙ ap (recorded again asks) same
-ends_again again asks (Ok received.NoMemory) e mid later same (inr end) is = is ∙ ap settle end.0 ∙ same
-ends_again again asks answer e mid later same (inr end) is = absurd end
+ends_again again asks answer e mid later same h is = grind arith
 
 opened_again : (again : ℕ) (payload : List ℕ) (asks : Bool) (e : End) (answer : Result Received Closing) (later : End) → ((mid : End) → TakesPayload again payload e answer mid → later ≡ settle mid → OnlyRecords again asks answer e later)
     → OpenReceive again payload e answer later → OnlyRecords again asks answer e later
-opened_again again payload asks e answer later taken step =
-    let stays : (r : Result Received Closing) → answer ≡ r → OnlyRecords again asks r e later → OnlyRecords again asks answer e later = λ r is h. subst (λ a. OnlyRecords again asks a e later) (sym is) h in
-    by_open (OnlyRecords again asks answer e later) again payload e answer later step (stays (Ok received.BelowFloor)) (stays (Ok received.Duplicate)) (λ high mid takes is. taken mid takes is)
+opened_again again payload asks e answer later taken step = grind arith
 
 append_none : (ps : List PlacedValue) → ps ++ [] ≡ ps
 append_none [] = refl

@@ -45,13 +45,7 @@ apart_none =
 -- a record after it is a record before it, or one without its head
 module _ (m m' : Records) (k : ℕ) (p : Piece) (h : IsShorter m k p m') where
   whole : (j : ℕ) (qs : List Piece) → fmap.get m' j ≡ Some qs → (rs : List Piece) × (fmap.get m j ≡ Some rs) × ((q : Piece) → Among q qs → Among q rs) × (ApartAll rs → ApartAll qs)
-  whole j qs there =
-      elim (cases_eq j k) [
-        | inl same ↦
-            (let is : qs ≡ h.was.0 = h.was.2 qs (ap (fmap.get m') (sym same) ∙ there) in
-            (p ∷ h.was.0, ap (fmap.get m) same ∙ h.was.1, (λ q a. inr (subst (Among q) is a)), (λ all. subst ApartAll (sym is) all.1)))
-        | inr ne ↦ (qs, sym (h.others j ne) ∙ there, (λ q a. a), (λ all. all))
-      ]
+  whole j qs there = grind arith
 
   pub apart_shorter : AreApartIn m → AreApartIn m'
   apart_shorter a =
@@ -71,12 +65,10 @@ module _ (m m' : Records) (k : ℕ) (p : Piece) (h : IsShorter m k p m') where
 -- A piece comes
 
 so_far_all : (m : Records) (k : ℕ) → AreApartIn m → (o : Option (List Piece)) → fmap.get m k ≡ o → ApartAll (elim o [ None ↦ [] | Some ps ↦ ps ])
-so_far_all m k a None is = tt
-so_far_all m k a (Some ps) is = a.inside k ps is
+so_far_all m k a o is = grind arith
 
 so_far_among : (m : Records) (k : ℕ) (q : Piece) (o : Option (List Piece)) → fmap.get m k ≡ o → Among q (elim o [ None ↦ [] | Some ps ↦ ps ]) → (ps : List Piece) × (fmap.get m k ≡ Some ps) × Among q ps
-so_far_among m k q None is a = absurd a
-so_far_among m k q (Some ps) is a = (ps, is, a)
+so_far_among m k q o is a = grind arith
 
 module _ (m : Records) (k : ℕ) (p : Piece) (a : AreApartIn m) (new : (q : Piece) → IsCarried m q → Apart q p) where
   carried : (q : Piece) → Among q (pieces_in m k) → (ps : List Piece) × (fmap.get m k ≡ Some ps) × Among q ps
@@ -128,5 +120,4 @@ due_apart m n s c t due (Data k d) out =
     })
 
 pub told_apart : (m : Records) (i : Item) → (IsCarried m (Told i) → ⊥) → (q : Piece) → IsCarried m q → Apart q (Told i)
-told_apart m i new (Data n c) out = tt
-told_apart m i new (Told j) out = λ same. new (subst (λ x. IsCarried m (Told x)) same out)
+told_apart m i new q out = grind arith

@@ -29,16 +29,13 @@ use Rattle.qs_machine.proofs.EndsAfter.{IsAfter, lawful_in, after_frame, after_a
 -- A packet that is lost changes no count, nor does a number that is claimed or a close that is told.
 
 settled_lost : (k : ℕ) (p : Piece) (e : End) → CountsAreSettled e → CountsAreSettled (first_lost k p e)
-settled_lost k p e h Bidi = h Bidi
-settled_lost k p e h Uni = h Uni
+settled_lost k p e h d = grind arith
 
 settled_claimed : (e : End) → CountsAreSettled e → CountsAreSettled (record e { next = e.next + 1 })
-settled_claimed e h Bidi = h Bidi
-settled_claimed e h Uni = h Uni
+settled_claimed e h d = grind arith
 
 settled_shut : (c : Closed) (e : End) → CountsAreSettled e → CountsAreSettled (closes c e)
-settled_shut c e h Bidi = h Bidi
-settled_shut c e h Uni = h Uni
+settled_shut c e h d = grind arith
 
 -- After every call the counts are settled.
 pub settled_call : (old : End) (call : Call) (answer : Answer call) (new : End) → CountsAreSettled old → EndStep old call answer new → CountsAreSettled new

@@ -1,21 +1,21 @@
 -- Every frame and every call keeps an end within the credit that it granted.
-use Rattle.std.proofs.Common.{◌≡◌, ℕ, ◌+◌, ◌%◌, ◌≤◌, true, Option, Some, None, option_map, refl, subst, arith, ◌-◌, ◌/◌, Bool, false, ◌&&◌, ◌||◌, List, length, is_some, sym, ap, ◌∙◌, inl, inr, not, take}
-use Rattle.std.proofs.lemmas.Bool.{cond_both, false≢true, and_right}
+use Rattle.std.proofs.Common.{◌≡◌, ℕ, ◌+◌, ◌%◌, ◌≤◌, true, Option, Some, None, option_map, refl, subst, arith, ◌-◌, Bool, false, ◌&&◌, ◌||◌, List, length, is_some, sym, ap, ◌∙◌, inl, inr, not, take}
+use Rattle.std.proofs.lemmas.Bool.{cond_both, and_right}
 use Rattle.std.proofs.lemmas.Bool.Decides.{nat_tests}
 use Rattle.qs_ranges.proofs.Sets.{end_of-empty}
 use Rattle.qs_wire.specs.declared.stream_id.Role.{Role}
 use Rattle.qs_recv.specs.Lane.{MAX_WINDOW, RecvLane, new_lane, highest, taken, raise, next_limit, check_stream, check_reset, take_stream, take_reset, is_whole, breaks_final_size, MAX_CONN_WINDOW, after_read, after_answer, read_answer, stop, stop_and_discard, is_over, set_window}
 use Rattle.qs_recv.specs.declared.credit.Share.{Share}
 use Rattle.qs_recv.specs.Lawful.{IsLawful}
-use Rattle.qs_recv.proofs.LawfulLaws.{lawful_new, lawful_raise, highest-take_stream}
+use Rattle.qs_recv.proofs.LawfulLaws.{lawful_new, highest-take_stream}
 use Rattle.qs_calls.specs.declared.settings.Settings.{Settings}
 use Rattle.qs_calls.specs.Settings.{are_in_wide_range, is_between, MAX_GRANT}
 use Rattle.qs_machine.specs.Tables.{Tables, lookup, update, updated, open_to, each, total}
-use Rattle.qs_machine.specs.Ends.{Present, first_window_by, is_uni, is_own_by, End, is_own, recv_lane, opens, opened_by_peer, first_window, on_recv}
+use Rattle.qs_machine.specs.Ends.{Present, first_window_by, is_uni, End, is_own, recv_lane, opens, opened_by_peer, first_window, on_recv}
 use Rattle.qs_machine.specs.Standing.{HasLawfulLane, KeepsCredit, IsInCredit, CountsStand}
 use Rattle.qs_machine.proofs.TableLaws.{slots_updated, slots_opened, slots_each, total_update, total_open, total_each, lookup_open, open_at}
 use Rattle.std.specs.Prelude.{cond, max, nat_le, nat_lt, is_none, Result, Ok, Err, IsOk}
-use Rattle.std.proofs.lemmas.Option.{none-some, same_Some}
+use Rattle.std.proofs.lemmas.Option.{same_Some}
 use Rattle.qs_wire.specs.declared.stream_id.Dir.TheVariants.{Uni, Bidi}
 use Rattle.qs_recv.specs.Assembled.{Assembled, put, discard}
 use Rattle.qs_recv.specs.Laws.{TakeStream, TakeReset, ReadUpTo, StopWith, ForgetWith, SetWindow}
@@ -25,14 +25,13 @@ use Rattle.qs_recv.specs.declared.half.RecvFault.TheVariants.{FinalSize, StreamC
 use Rattle.qs_recv.proofs.GrowthLaws.{lawful_after_call, grows_after_call}
 use Rattle.qs_send.specs.declared.piece.Item.{Item}
 use Rattle.qs_send.specs.declared.piece.Item.TheVariants.{MaxStreamData, MaxStreams, ResetStream, StopSending, StreamDataBlocked}
-use Rattle.qs_machine.specs.Credit.{spent, grant, all_taken, ended, settle}
+use Rattle.qs_machine.specs.Credit.{spent, all_taken, ended, settle}
 use Rattle.qs_machine.specs.Seen.{Seen, Ack, Stream, Control}
-use Rattle.qs_machine.specs.Verdicts.{verdict, item_verdict, or_else, fault_if, state_fault_in, credit_fault, bytes_fault, lane_of, or_new, fault_code}
+use Rattle.qs_machine.specs.Verdicts.{verdict, item_verdict, or_else, fault_if, state_fault_in, credit_fault, bytes_fault, lane_of, or_new}
 use Rattle.qs_machine.specs.FrameStep.{frame_taken, item_taken, AckedPiece, acks, named}
 use Rattle.qs_machine.proofs.Leaves.{acks_leave, frame_leaves, put_leaves}
 use Rattle.qs_machine.proofs.EveryCall.{not_chosen, Change, changed, Comes, relates, Wanted, Opened, Stopped, WasRead, WasSet, Took, Acked, Put, Settled, Forgotten, same_either}
 use Rattle.qs_recv.specs.declared.half.Read.{Read}
-use Rattle.qs_recv.specs.declared.half.Read.TheVariants as reads
 use Rattle.qs_calls.specs.declared.settings.SetFault.{SetFault}
 use Rattle.qs_calls.specs.declared.settings.SetFault.TheVariants as setting
 use Rattle.qs_machine.specs.Owner.{first_refusal, refuse_if}
@@ -51,17 +50,10 @@ pub record WindowsFit (s : Settings) : Type 0 where
   pub uni : (1 ≤ s.uni) × (s.uni ≤ MAX_WINDOW)
 
 pub windows_fit : (s : Settings) → are_in_wide_range s ≡ true → WindowsFit s
-windows_fit s h =
-    record {
-      local = (grind (arith, nat_tests, h), grind (arith, nat_tests, h));
-      remote = (grind (arith, nat_tests, h), grind (arith, nat_tests, h));
-      uni = (grind (arith, nat_tests, h), grind (arith, nat_tests, h));
-    }
+windows_fit s h = grind (arith, nat_tests)
 
 window_fits : (role : Role) (s : Settings) (n : ℕ) → WindowsFit s → (1 ≤ first_window_by role s n) × (first_window_by role s n ≤ MAX_WINDOW)
-window_fits role s n h =
-    cond_both (is_uni n) s.uni _ (λ w. (1 ≤ w) × (w ≤ MAX_WINDOW)) (λ _. h.uni) (λ _.
-    cond_both (is_own_by role n) s.bidi_local s.bidi_remote (λ w. (1 ≤ w) × (w ≤ MAX_WINDOW)) (λ _. h.local) (λ _. h.remote))
+window_fits role s n h = grind arith
 
 -- streams of one type have one window
 window_same : (role : Role) (s : Settings) (n m : ℕ) → m % 4 ≡ n % 4 → first_window_by role s n ≡ first_window_by role s m
@@ -120,8 +112,7 @@ module _ (role : Role) (s : Settings) (p : Present) (recvs : Tables RecvLane) (g
   next_limit_within l t w v share le h = grind (arith, nat_tests)
 
   raised_lane : (n : ℕ) (o : Option RecvLane) → HasLawfulLane role s n o → HasLawfulLane role s n (option_map raise o)
-  raised_lane n None has = tt
-  raised_lane n (Some l) has = (lawful_raise l has.0, has.1)
+  raised_lane n o has = grind (arith, nat_tests)
 
   pub keeps_settle : (share : Share) → KeepsCredit role s p (each raise recvs) (next_limit granted (total taken recvs) p.conn_window share)
   keeps_settle share =
@@ -139,29 +130,23 @@ module _ (role : Role) (s : Settings) (p : Present) (recvs : Tables RecvLane) (g
 -- Checks that were passed
 
 pub first_passed : (a b : Option ℕ) → or_else a b ≡ None → a ≡ None
-first_passed None b e = refl
-first_passed (Some code) b e = absurd (none-some code (sym e))
+first_passed a b e = grind arith
 
 pub second_passed : (a b : Option ℕ) → or_else a b ≡ None → b ≡ None
-second_passed None b e = e
-second_passed (Some code) b e = absurd (none-some code (sym e))
+second_passed a b e = grind arith
 
 pub no_fault : (b : Bool) (code : ℕ) → fault_if b code ≡ None → b ≡ false
-no_fault true code e = absurd (none-some code (sym e))
-no_fault false code e = refl
+no_fault b code e = grind arith
 
 is_open : (o : Option RecvLane) (w : ℕ) (share : Share) → is_none o ≡ false → o ≡ Some (or_new o w share)
-is_open None w share e = absurd (false≢true (sym e))
-is_open (Some l) w share e = refl
+is_open o w share e = grind arith
 
 -- the check of a lane that was passed, and what it says
 credit_passed : (e : End) (r : Result Highest RecvFault) → credit_fault e r ≡ None → (h : Highest) × (r ≡ Ok h) × (spent e + (h.after - h.before) ≤ e.granted)
-credit_passed e (Err fault) p = absurd (none-some (fault_code fault) (sym p))
-credit_passed e (Ok h) p = (let low = no_fault _ _ p in (h, refl, grind (arith, nat_tests)))
+credit_passed e r p = grind arith
 
 two_checks : (b c : Bool) (f g : RecvFault) (x h : Highest) → cond b (Err f) (cond c (Err g) (Ok x)) ≡ Ok h → (x ≡ h) × IsOk (cond b (Err f) (cond c (Err g) (Ok x)))
-two_checks false false f g x h e = (cc, refl)
-two_checks _ c f g x h e = absurd (cc)
+two_checks b c f g x h e = grind arith
 
 -- Opening
 
@@ -174,9 +159,7 @@ pub sound_opened : (n : ℕ) (e : End) → IsInCredit e → IsInCredit (opened_b
 sound_opened n e h = cond_both (is_own e n) e (opens n e) IsInCredit (λ _. h) (λ _. sound_opens n e h)
 
 spent_opens : (n : ℕ) (e : End) → spent (opens n e) ≡ spent e
-spent_opens n e =
-    cond_both (is_uni n && is_own e n) e.recvs (open_to e.recvs n (λ m. new_lane (first_window e n) e.tuning.credit_step)) (λ t. total highest t ≡ total highest e.recvs)
-    (λ _. refl) (λ _. total_open highest e.recvs n (λ m. new_lane (first_window e n) e.tuning.credit_step) (λ m. end_of-empty))
+spent_opens n e = grind (arith, nat_tests, cond_both, total_open, end_of-empty)
 
 -- a lane that was opened is there as it was, or as it begins
 begun : (t : Tables RecvLane) (n w : ℕ) (share : Share) → lookup (open_to t n (λ m. new_lane w share)) n ≡ Some (or_new (lookup t n) w share)
@@ -187,8 +170,7 @@ begun t n w share =
     ]
   where
     there : (o : Option RecvLane) → is_some o ≡ true → o ≡ Some (or_new o w share)
-    there None none = absurd (false≢true none)
-    there (Some l) is = refl
+    there o none = grind arith
 
 opens_lane : (n : ℕ) (e : End) → is_own e n ≡ false → recv_lane (opens n e) n ≡ Some (lane_of e n)
 opens_lane n e other =
@@ -197,11 +179,7 @@ opens_lane n e other =
 
 -- the lane that a frame which passed the first checks changes
 pub opened_lane : (n : ℕ) (e : End) → state_fault_in e n ≡ None → recv_lane (opened_by_peer n e) n ≡ Some (lane_of e n)
-opened_lane n e passed = go (is_own e n) refl passed
-  where
-    go : (b : Bool) → is_own e n ≡ b → cond b (fault_if (is_none (recv_lane e n)) 0x05) (fault_if (nat_le (grant e n) (n / 4)) 0x04) ≡ None → recv_lane (cond b e (opens n e)) n ≡ Some (lane_of e n)
-    go true own p = is_open (recv_lane e n) (first_window e n) e.tuning.credit_step (no_fault _ _ p)
-    go false other p = opens_lane n e other
+opened_lane n e passed = grind (arith, nat_tests, is_open, no_fault, opens_lane)
 
 -- Frames with data and resets
 
@@ -290,12 +268,10 @@ pub sound_settle : (e : End) → IsInCredit e → IsInCredit (settle e)
 sound_settle e h = keeps_settle e.role e.settings e.present e.recvs e.granted h e.tuning.credit_step
 
 read_window : (answer : Read) (l : RecvLane) (size : ℕ) → (after_answer answer l size).arrived.widest ≡ l.arrived.widest
-read_window (reads.Bytes n) l size = refl
-read_window answer l size = refl
+read_window answer l size = grind arith
 
 read_highest : (answer : Read) (l : RecvLane) (size : ℕ) → highest (after_answer answer l size) ≡ highest l
-read_highest (reads.Bytes n) l size = refl
-read_highest answer l size = refl
+read_highest answer l size = grind arith
 
 pub sound_read : (n size : ℕ) (e : End) → IsInCredit e → IsInCredit (on_recv n (λ l. after_read l size) e)
 sound_read n size e h =
@@ -312,9 +288,7 @@ sound_stop n code e h =
 
 -- a setting that isn't refused lies in its range
 settable : (closed b : Bool) (f g : SetFault) (o : Option SetFault) → first_refusal (refuse_if closed f) (first_refusal (refuse_if (not b) g) o) ≡ None → b ≡ true
-settable true b f g o h = absurd (none-some f (sym h))
-settable false true f g o h = refl
-settable false false f g o h = absurd (none-some g (sym h))
+settable closed b f g o h = grind arith
 
 -- another window of a stream
 pub sound_window : (n w : ℕ) (e : End) → 1 ≤ w → w ≤ MAX_WINDOW → IsInCredit e → IsInCredit (on_recv n (λ l. set_window l w) e)
@@ -382,18 +356,10 @@ pub grant_within : (present g all ended n : ℕ) → g ≤ all → count_with pr
 grant_within present g all ended n h = grind (arith, nat_tests, h)
 
 stand_set : (x : Setting) (e : End) → CountsStand e → CountsStand (with_setting x e)
-stand_set (Grant Bidi n) e h = (grant_within e.present.grant_bidi e.granted_bidi e.settings.lifetime_bidi (ended e Bidi) n h.0, h.1)
-stand_set (Grant Uni n) e h = (h.0, grant_within e.present.grant_uni e.granted_uni e.settings.lifetime_uni (ended e Uni) n h.1)
-stand_set _ e h = h
+stand_set x e h = grind arith
 
 stand_change : (old : End) (call : Call) (c : Change) (e : End) → Comes old call e c → CountsStand e → CountsStand (changed c e)
-stand_change old call (Wanted Uni count) e comes h = h
-stand_change old call (WasSet x) e comes h = stand_set x e h
-stand_change old call (Took f) e comes h = subst CountsStand (sym (frame_leaves f e)) h
-stand_change old call (Acked count ranges) e comes h = subst CountsStand (sym (acks_leave (take count (named e ranges)) e)) h
-stand_change old call (Put f) e comes h = subst CountsStand (sym (put_leaves f e)) h
-stand_change old call Settled e comes h = counts_stand e h
-stand_change old call c e comes h = h
+stand_change old call c e comes h = grind (arith, nat_tests, stand_set, frame_leaves, acks_leave, put_leaves, counts_stand)
 
 pub stand_call : (old : End) (call : Call) (answer : Answer call) (new : End) → CountsStand old → EndStep old call answer new → CountsStand new
 stand_call old call answer new h step = relates (λ a b. CountsStand a → CountsStand b) (λ e is. is) (λ a b c x y is. y (x is)) old call (stand_change old call) answer new step h

@@ -1,6 +1,8 @@
 -- Records of packets: what one of them carries once a piece came or went.
+use Rattle.std.proofs.lemmas.Bool.Decides.{nat_tests}
+use Rattle.std.proofs.Common.{arith}
 use Rattle.std.proofs.Common.{◌≡◌, ◌≢◌, ℕ, Bool, true, false, List, [], ◌∷◌, ◌++◌, ◌⊎◌, refl, sym, ap, ◌∙◌, subst, inl, inr, Option, None, Some, cond, nat_cmp, is_some}
-use Rattle.std.proofs.lemmas.Bool.{cases_eq, eqb-true, eq-eqb, both_ways}
+use Rattle.std.proofs.lemmas.Bool.{cases_eq, eq-eqb, both_ways}
 use Rattle.std.specs.FinMap as fmap
 use Rattle.std.specs.Cmp.{nat_cmp_total, unsigned_tied}
 use Rattle.std.specs.Ordering.{eq_by_cmp}
@@ -14,8 +16,7 @@ pub tied_itself : (k : ℕ) → eq_by_cmp nat_cmp k k ≡ true
 tied_itself k = unsigned_tied k k ∙ eq-eqb k k refl
 
 not_tied : (q k : ℕ) (b : Bool) → q ≢ k → eq_by_cmp nat_cmp q k ≡ b → eq_by_cmp nat_cmp q k ≡ false
-not_tied q k false ne is = is
-not_tied q k true ne is = absurd (ne (eqb-true q k (sym (unsigned_tied q k) ∙ is)))
+not_tied q k b ne is = grind arith
 
 pub get_new : {X : Type 0} (m : fmap.FinMap nat_cmp X) (k : ℕ) (v : X) → fmap.get (fmap.insert m k v) k ≡ Some v
 get_new m k v = fmap.get-insert nat_cmp_total m k v k ∙ ap (λ x. cond x (Some v) (fmap.get m k)) (tied_itself k)
@@ -54,35 +55,13 @@ pub record IsShorter (m : Records) (k : ℕ) (p : Piece) (m' : Records) : Type 0
   pub others : (j : ℕ) → j ≢ k → fmap.get m' j ≡ fmap.get m j
 
 pub some_is : {X : Type 0} (o : Option X) (x y : X) → o ≡ Some x → o ≡ Some y → x ≡ y
-some_is o x y p q = some_inj (sym p ∙ q)
-  where
-    out : {X : Type 0} → X → Option X → X
-    out d None = d
-    out d (Some x) = x
-
-    some_inj : {X : Type 0} {x y : X} → ◌≡◌ {A = Option X} (Some x) (Some y) → x ≡ y
-    some_inj {x = x} e = ap (out x) e
+some_is o x y p q = grind arith
 
 pub none_some : {X : Type 0} (x : X) → ◌≡◌ {A = Option X} None (Some x) → ⊥
 none_some x e = both_ways true (sym (ap is_some e)) refl
 
 pub shortened_is : (m : Records) (k : ℕ) (p : Piece) → first_piece (fmap.get m k) ≡ Some p → IsShorter m k p (without_first m k (fmap.get m k))
-shortened_is m k p first = go (fmap.get m k) refl first
-  where
-    go : (o : Option (List Piece)) → fmap.get m k ≡ o → first_piece o ≡ Some p → IsShorter m k p (without_first m k o)
-    go (Some (q ∷ [])) is f =
-        let same : q ≡ p = some_is (Some q) q p refl f in
-        record {
-          was = ([], is ∙ ap (λ x. Some (x ∷ [])) same, (λ qs e. absurd (none_some qs (sym (get_removed m k) ∙ e))), (λ r a. absurd a));
-          others = λ j ne. get_kept m k j ne;
-        }
-    go (Some (q ∷ r ∷ rs)) is f =
-        let same : q ≡ p = some_is (Some q) q p refl f in
-        record {
-          was = (r ∷ rs, is ∙ ap (λ x. Some (x ∷ r ∷ rs)) same, (λ qs e. some_is _ qs (r ∷ rs) e (get_new m k (r ∷ rs))), (λ x a. get_new m k (r ∷ rs)));
-          others = λ j ne. get_other m k (r ∷ rs) j ne;
-        }
-    go _ is f = absurd (none_some p f)
+shortened_is m k p first = grind (arith, nat_tests, some_is, none_some, get_removed, get_kept, get_new, get_other)
 
 module _ (m m' : Records) (k : ℕ) (p : Piece) (h : IsShorter m k p m') where
   -- what is carried still was carried before
@@ -120,8 +99,7 @@ abbrev pub with_piece : Records → ℕ → Piece → Records
 with_piece m k p = fmap.insert m k (pieces_in m k ++ p ∷ [])
 
 pub so_far : (o : Option (List Piece)) (x : Piece) → Among x (elim o [ None ↦ [] | Some ps ↦ ps ]) → (ps : List Piece) × (o ≡ Some ps) × Among x ps
-so_far None x a = absurd a
-so_far (Some ps) x a = (ps, refl, a)
+so_far o x a = grind arith
 
 module _ (m : Records) (k : ℕ) (p : Piece) where
   pub carried_more : (x : Piece) → IsCarried m x → IsCarried (with_piece m k p) x
@@ -140,12 +118,4 @@ module _ (m : Records) (k : ℕ) (p : Piece) where
   carried_new = (k, pieces_in m k ++ p ∷ [], get_new m k _, among_last (pieces_in m k) p)
 
   pub carried_is : (x : Piece) → IsCarried (with_piece m k p) x → IsCarried m x ⊎ (x ≡ p)
-  carried_is x (j, ps, there, a) =
-      elim (cases_eq j k) [
-        | inl same ↦
-            elim (among_push (pieces_in m k) p x (subst (Among x) (some_is _ ps _ (ap (fmap.get (with_piece m k p)) (sym same) ∙ there) (get_new m k _)) a)) [
-              | inl before ↦ (let h = so_far (fmap.get m k) x before in inl (k, h.0, h.1, h.2))
-              | inr e ↦ inr e
-            ]
-        | inr ne ↦ inl (j, ps, sym (get_other m k _ j ne) ∙ there, a)
-      ]
+  carried_is x h = grind (arith, nat_tests, cases_eq, among_push, some_is, get_new, so_far, get_other)

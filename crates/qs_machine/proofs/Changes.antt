@@ -1,25 +1,21 @@
 -- A frame without a fault changes an end exactly where a test of what it finds says so.
 use Rattle.std.proofs.Common.{◌≡◌, ℕ, ◌+◌, Bool, true, false, not, ◌&&◌, ◌||◌, cond, List, length, Option, Some, None, is_some, ◌⊎◌, refl, sym, ap, ◌∙◌, subst, arith, inl, inr}
 use Rattle.std.specs.Prelude.{max, nat_lt, is_none, IsOk}
-use Rattle.std.specs.FinSet as set
 use Rattle.std.proofs.lemmas.Option.{none-some, same_Some}
 use Rattle.std.proofs.lemmas.Bool.{and_parts, both_ways, cond_both, or_cases, or_right}
 use Rattle.std.proofs.lemmas.Bool.Decides.{nat_tests}
-use Rattle.qs_ranges.specs.Numbers.{covers, is_within}
+use Rattle.qs_ranges.specs.Numbers.{covers}
 use Rattle.qs_ranges.proofs.Sets.{covers-is, covers-of}
 use Rattle.qs_ranges.proofs.Algebra.{inside}
 use Rattle.qs_wire.specs.declared.stream_id.Dir.TheVariants.{Bidi, Uni}
-use Rattle.qs_recv.specs.Assembled.{put, forget}
-use Rattle.qs_recv.specs.Lane.{RecvLane, check_stream, take_stream, take_reset, is_whole, breaks_known, highest}
+use Rattle.qs_recv.specs.Assembled.{forget}
+use Rattle.qs_recv.specs.Lane.{RecvLane, check_stream, take_stream, take_reset, breaks_known, highest}
 use Rattle.qs_recv.specs.declared.credit.Share.TheVariants.{Half}
 use Rattle.qs_recv.specs.Changes.{stream_changes}
 use Rattle.qs_recv.proofs.AssembledLaws.{contains-with_run}
 use Rattle.qs_recv.proofs.LawfulLaws.{unbroken}
-use Rattle.qs_send.specs.Lane.{SendLane, reset_refusal, broken_off, first_code, stopped_lane, stop_taken, allow_lane, is_whole as is_sent_whole}
+use Rattle.qs_send.specs.Lane.{SendLane, stop_taken, allow_lane}
 use Rattle.qs_send.specs.Changes.{changes_by_stop}
-use Rattle.qs_send.specs.declared.parts.Reset.{Reset}
-use Rattle.qs_send.specs.declared.parts.SendFault.{SendFault}
-use Rattle.qs_send.specs.declared.parts.SendFault.TheVariants.{WasReset, Finished}
 use Rattle.qs_send.specs.declared.piece.Item.{Item}
 use Rattle.qs_send.specs.declared.piece.Item.TheVariants.{MaxData, MaxStreamData, MaxStreams, ResetStream, StopSending, StreamDataBlocked}
 use Rattle.qs_machine.specs.Tables.{Tables, lookup, updated, open_to}
@@ -33,42 +29,28 @@ use Rattle.qs_machine.proofs.EveryCall.{not_chosen}
 use Rattle.qs_machine.proofs.TablesAfter.{open_back}
 use Rattle.qs_machine.proofs.Taken.{out_there, in_there, stream_in, reset_in, stream_checked, mid_sends}
 use Rattle.qs_machine.proofs.LanesAgain.{put_again}
-use Rattle.qs_machine.proofs.Again.{WasOpened, opens_it, opened_back, recv_back, send_back, changed, stopped_back, allow_back}
+use Rattle.qs_machine.proofs.Again.{WasOpened, opens_it, opened_back, recv_back, send_back, changed, allow_back}
 use Rattle.std.proofs.Math.Bool.{and-false}
 
 -- Tests
 
 neither : (a b : Bool) → (a || b) ≡ false → (a ≡ false) × (b ≡ false)
-neither true b h = absurd (both_ways true h refl)
-neither false b h = (refl, h)
-
-one_false : (a b : Bool) → (a && b) ≡ false → (a ≡ false) ⊎ (b ≡ false)
-one_false true b h = inr h
-one_false false b h = inl refl
+neither a b h = grind arith
 
 not_false : (b : Bool) → not b ≡ false → b ≡ true
-not_false true h = refl
-not_false false h = absurd (both_ways true h refl)
+not_false b h = grind arith
 
 not_true : (b : Bool) → not b ≡ true → b ≡ false
-not_true true h = absurd (both_ways false refl h)
-not_true false h = refl
-
-is_there : {X : Type 0} (o : Option X) → is_none o ≡ false → is_some o ≡ true
-is_there None h = absurd (both_ways true h refl)
-is_there (Some x) h = refl
+not_true b h = grind arith
 
 is_missing : {X : Type 0} (o : Option X) → is_none o ≡ true → o ≡ None
-is_missing None h = refl
-is_missing (Some x) h = absurd (both_ways false refl h)
+is_missing o h = grind arith
 
 the_one : {X : Type 0} (o : Option X) → is_some o ≡ true → (x : X) × (o ≡ Some x)
-the_one None h = absurd (both_ways false refl h)
-the_one (Some x) h = (x, refl)
+the_one o h = grind arith
 
 half_true : {L : Type 0} (g : L → Bool) (o : Option L) → half_changes g o ≡ true → (l : L) × (o ≡ Some l) × (g l ≡ true)
-half_true g None h = absurd (both_ways false refl h)
-half_true g (Some l) h = (l, refl, h)
+half_true g o h = grind arith
 
 half_false : {L : Type 0} (g : L → Bool) (o : Option L) (l : L) → o ≡ Some l → half_changes g o ≡ false → g l ≡ false
 half_false g o l is h = sym (ap (half_changes g) is) ∙ h
@@ -76,9 +58,7 @@ half_false g o l is h = sym (ap (half_changes g) is) ∙ h
 -- Receiving halves
 
 known_end : (f : Option ℕ) (end n : ℕ) (fin : Bool) (before : ℕ) → breaks_known f end n fin before ≡ false → (fin && is_none f) ≡ false → cond fin (Some end) f ≡ f
-known_end f end n false before fine told = refl
-known_end None end n true before fine told = absurd (both_ways true told refl)
-known_end (Some s) end n true before fine told = let e : end ≡ s = grind (arith, nat_tests) in ap Some e
+known_end f end n fin before fine told = grind arith
 
 data_same : (l : RecvLane) (offset : ℕ) (bytes : List ℕ) (fin : Bool) → IsOk (check_stream l offset (length bytes) fin) → stream_changes l offset (length bytes) fin ≡ false → take_stream l offset bytes fin ≡ l
 data_same l offset bytes fin ok none =
@@ -88,32 +68,13 @@ data_same l offset bytes fin ok none =
     λ i. record l { arrived = arrived i; final_size = size i }
   where
     by_reset : {X : Type 0} {x y : X} (o : Option ℕ) (b : Bool) → (is_none o && not b) ≡ false → (b ≡ true → y ≡ x) → cond (is_some o) x y ≡ x
-    by_reset (Some code) b h same = refl
-    by_reset None b h same = same (not_false b h)
+    by_reset o b h same = grind arith
 
 data_differs : (l : RecvLane) (offset : ℕ) (bytes : List ℕ) (fin : Bool) → stream_changes l offset (length bytes) fin ≡ true → take_stream l offset bytes fin ≡ l → ⊥
-data_differs l offset bytes fin some same =
-    elim (or_cases _ _ some) [
-      | inl ends ↦ no_size fin l.final_size ends (ap (λ (k : RecvLane). k.final_size) same)
-      | inr new ↦
-          let (open_still, missing) = and_parts (is_none l.reset_code) _ new in
-          both_ways (covers l.arrived.received offset (offset + length bytes)) (not_true _ missing)
-          (covers-of l.arrived.received offset (offset + length bytes) (λ q low high.
-          sym (ap (λ (k : RecvLane). set.contains k.arrived.received q) same)
-          ∙ (ap (λ c. set.contains (cond (is_some c) l.arrived (put l.arrived offset bytes)).received q) (is_missing l.reset_code open_still))
-          ∙ contains-with_run l.arrived.received offset (length bytes) q
-          ∙ or_right (set.contains l.arrived.received q) (is_within offset (offset + length bytes) q) (inside offset (offset + length bytes) q low high)))
-    ]
-  where
-    no_size : (b : Bool) (f : Option ℕ) → (b && is_none f) ≡ true → cond b (Some (offset + length bytes)) f ≡ f → ⊥
-    no_size true None h is = none-some _ (sym is)
-    no_size _ f h is = both_ways false refl h
+data_differs l offset bytes fin some same = grind (arith, nat_tests, or_cases, and_parts, both_ways, not_true, covers-of, is_missing, contains-with_run, or_right, inside, none-some)
 
 reset_differs : (l : RecvLane) (code size : ℕ) → reset_changes l ≡ true → take_reset l code size ≡ l → ⊥
-reset_differs l code size some same =
-    let over = not_true (is_some l.reset_code || is_whole l) some in
-    let then = ap (λ b. is_some (cond b l (record l { arrived = forget l.arrived; final_size = Some size; reset_code = Some code })).reset_code) over in
-    both_ways (is_some l.reset_code) (neither _ _ over).0 (sym (ap (λ (k : RecvLane). is_some k.reset_code) same) ∙ then)
+reset_differs l code size some same = grind arith
 
 -- Sending halves
 
@@ -121,48 +82,18 @@ allow_differs : (l : SendLane) (m : ℕ) → nat_lt l.limit m ≡ true → allow
 allow_differs l m some same = let e : max l.limit m ≡ l.limit = ap (λ (k : SendLane). k.limit) same in grind (arith, nat_tests)
 
 stop_same : (answers : Bool) (l : SendLane) (code : ℕ) → changes_by_stop answers l ≡ false → stop_taken answers l code ≡ l
-stop_same true l code none =
-    elim (one_false (is_none (reset_refusal l)) (is_none l.stopped) none) [
-      | inl refused ↦ stopped_back true l code (inl (is_there (reset_refusal l) refused))
-      | inr told ↦ stopped_back true l code (inr (refl, is_there l.stopped told))
-    ]
-stop_same false l code none = stopped_back false l code (inl (is_there (reset_refusal l) none))
+stop_same answers l code none = grind arith
 
 stop_differs : (answers : Bool) (l : SendLane) (code : ℕ) → changes_by_stop answers l ≡ true → stop_taken answers l code ≡ l → ⊥
-stop_differs true l code some same =
-    let open_still = and_parts (is_none (reset_refusal l)) (is_none l.stopped) some in
-    let none = is_missing (reset_refusal l) open_still.0 in
-    no_code l.stopped open_still.1 (sym (ap (λ o. (cond (is_some o) l (record l { stopped = first_code l.stopped code })).stopped) none) ∙ ap (λ (k : SendLane). k.stopped) same)
-  where
-    no_code : (o : Option ℕ) → is_none o ≡ true → first_code o code ≡ o → ⊥
-    no_code None h is = none-some code (sym is)
-    no_code (Some first) h is = both_ways false refl h
-stop_differs false l code some same =
-    let none = is_missing (reset_refusal l) some in
-    let now : is_some (stopped_lane l code).was_reset ≡ true = ap (λ o. is_some (cond (is_some o) l (record (broken_off l code) { stopped = first_code l.stopped code })).was_reset) none in
-    both_ways (is_some l.was_reset) (was_none WasReset Finished l.was_reset (is_sent_whole l) none) (sym (ap (λ (k : SendLane). is_some k.was_reset) same) ∙ now)
-  where
-    was_none : (a b : SendFault) (o : Option Reset) (whole : Bool) → cond (is_some o) (Some a) (cond whole (Some b) None) ≡ None → is_some o ≡ false
-    was_none a b None whole h = refl
-    was_none a b (Some r) whole h = absurd (none-some a (sym h))
+stop_differs answers l code some same = grind arith
 
 -- The streams of an end
 
-halves_open : (own uni : Bool) (r : Option RecvLane) (s : Option SendLane) → (not own && (is_none r || (not uni && is_none s))) ≡ false → own ≡ false → (is_some r ≡ true) × ((uni && not own) ≡ false → is_some s ≡ true)
-halves_open true uni r s h other = absurd (both_ways true other refl)
-halves_open false true (Some l) s h other = (refl, λ c. absurd (both_ways true c refl))
-halves_open false false (Some l) (Some k) h other = (refl, λ c. refl)
-halves_open false uni r s h other = absurd (both_ways true h refl)
-
 half_missing : (own uni : Bool) (r : Option RecvLane) (s : Option SendLane) → (not own && (is_none r || (not uni && is_none s))) ≡ true → (own ≡ false) × ((r ≡ None) ⊎ ((uni ≡ false) × (s ≡ None)))
-half_missing false uni None s h = (refl, inl refl)
-half_missing false false (Some l) None h = (refl, inr (refl, refl))
-half_missing _ uni r s h = absurd (both_ways false refl h)
+half_missing own uni r s h = grind arith
 
 was_opened : (n : ℕ) (e : End) → is_yet_to_open e n ≡ false → WasOpened e n
-was_opened n e none other =
-    let (r, s) = halves_open (is_own e n) (is_uni n) (recv_lane e n) (send_lane e n) none other in
-    record { recvs = λ c. r; sends = s }
+was_opened n e none other = grind arith
 
 updated_open : {X : Type 0} (t : Tables X) (n : ℕ) (f : X → X) → is_some (lookup t n) ≡ true → is_some (lookup (updated t n f (lookup t n)) n) ≡ true
 updated_open t n f is = let (x, there) = the_one (lookup t n) is in ap is_some (changed t n f x there)
@@ -186,10 +117,7 @@ open_differs n e k yet recvs sends same =
     ]
 
 recv_same : (n : ℕ) (f : RecvLane → RecvLane) (e : End) → state_fault_in e n ≡ None → is_yet_to_open e n ≡ false → ((l : RecvLane) → lookup e.recvs n ≡ Some l → f l ≡ l) → on_recv n f (opened_by_peer n e) ≡ e
-recv_same n f e fine none stays =
-    let was = was_opened n e none in
-    let is = in_there e e n fine (sym (opened_back n e was)) in
-    recv_back n f _ e was is (stays _ is)
+recv_same n f e fine none stays = grind (arith, nat_tests, was_opened, in_there, opened_back, recv_back)
 
 recv_differs : (n : ℕ) (f : RecvLane → RecvLane) (e : End) (l : RecvLane) → state_fault_in e n ≡ None → lookup e.recvs n ≡ Some l → (f l ≡ l → ⊥) → on_recv n f (opened_by_peer n e) ≡ e → ⊥
 recv_differs n f e l fine is differs same =
@@ -285,12 +213,4 @@ frame_same _ e ours v none = refl
 -- and one of which it says so changes something
 pub frame_differs : (f : Seen) (e : End) → verdict e f ≡ None → changes e f ≡ true → frame_taken f e ≡ e → ⊥
 unfolding frame_taken
-frame_differs (Stream n offset bytes fin) e v some same =
-    elim (or_cases _ _ some) [
-      | inl yet ↦ on_recv_differs n (λ l. take_stream l offset bytes fin) e yet same
-      | inr half ↦ (
-          let (l, is, more) = half_true (λ k. stream_changes k offset (length bytes) fin) (recv_lane e n) half in
-          recv_differs n (λ l. take_stream l offset bytes fin) e l (stream_in e n offset bytes fin v) is (data_differs l offset bytes fin more) same)
-    ]
-frame_differs (Control i) e v some same = item_differs i e v some same
-frame_differs f e v some same = both_ways false refl some
+frame_differs f e v some same = grind (arith, nat_tests, or_cases, on_recv_differs, half_true, recv_differs, stream_in, data_differs, item_differs, both_ways)

@@ -1,15 +1,15 @@
 -- How many streams ended and what is stored: bounds, sums over the halves of a type, and counts that never fall.
-use Rattle.std.proofs.Common.{◌≡◌, ℕ, zero, suc, ◌+◌, ◌-◌, ◌*◌, ◌/◌, ◌%◌, ◌<◌, ◌≤◌, Bool, true, false, cond, List, [], ◌∷◌, length, map, Option, None, Some, slice_get, refl, sym, ap, ◌∙◌, subst, arith, not, ◌&&◌, ◌||◌, is_some, ◌++◌, get_or, take}
+use Rattle.std.proofs.Common.{◌≡◌, ℕ, zero, suc, ◌+◌, ◌-◌, ◌*◌, ◌/◌, ◌%◌, ◌<◌, ◌≤◌, Bool, true, false, cond, List, [], ◌∷◌, length, map, Option, None, Some, slice_get, refl, sym, ap, ◌∙◌, subst, arith, not, ◌&&◌, ◌||◌, is_some, ◌++◌, take}
 use Rattle.std.specs.Prelude.{max, zip, Ok}
 use Rattle.std.specs.List.{filter, sum_by}
 use Rattle.std.proofs.lemmas.Option.{none-some, same_Some}
-use Rattle.std.proofs.lemmas.Bool.{both_ways, and_parts, and_from, cond_both}
+use Rattle.std.proofs.lemmas.Bool.{and_parts, and_from, cond_both}
 use Rattle.std.proofs.lemmas.Nat.{le-div, mod_below}
 use Rattle.std.proofs.Math.Nat.{mul-le-mul_right}
 use Rattle.qs_wire.specs.declared.stream_id.Dir.{Dir}
 use Rattle.qs_wire.specs.declared.stream_id.Dir.TheVariants.{Bidi, Uni}
 use Rattle.qs_wire.specs.declared.stream_id.Role.{Role}
-use Rattle.qs_recv.specs.Lane.{RecvLane, raise, highest, taken, new_lane, noted, is_whole, MAX_WINDOW}
+use Rattle.qs_recv.specs.Lane.{RecvLane, raise, highest, taken, new_lane, noted, MAX_WINDOW}
 use Rattle.qs_send.specs.Lane.{SendLane}
 use Rattle.qs_calls.specs.declared.settings.Settings.{Settings}
 use Rattle.qs_calls.specs.declared.settings.Tuning.{Tuning}
@@ -30,28 +30,24 @@ use Rattle.qs_recv.proofs.LawfulLaws.{stored_within, taken_within, lawful_new, l
 use Rattle.qs_calls.specs.declared.settings.PeerLimits.{PeerLimits}
 use Rattle.qs_calls.specs.declared.settings.SetupFault.{SetupFault}
 use Rattle.qs_calls.specs.declared.settings.SetupFault.TheVariants.{OutOfRange, TooManyStreams}
-use Rattle.qs_calls.specs.Settings.{are_in_range, are_in_wide_range, are_spellable, are_countable, fault_where, setup_fault, wide_setup_fault, default_tuning}
+use Rattle.qs_calls.specs.Settings.{are_in_wide_range, are_spellable, are_countable, setup_fault, wide_setup_fault, default_tuning}
 use Rattle.qs_machine.proofs.TableLaws.{value, total_le, total_both}
 use Rattle.std.specs.FinSet as set
-use Rattle.std.proofs.lemmas.List.Sums.{sum_by-set, sum_by-cons, sum_by-append, get_or-le-sum_by}
+use Rattle.std.proofs.lemmas.List.Sums.{sum_by-cons, sum_by-append}
 use Rattle.std.proofs.Math.ListN.{set}
 use Rattle.qs_ranges.proofs.Starts.{starts_below_end}
 use Rattle.qs_machine.specs.declared.tally.Tally.{Tally}
-use Rattle.qs_machine.specs.Sums.{stored_on, tally_of, tally_on, moved, IsPaid, EachLawful}
+use Rattle.qs_machine.specs.Sums.{stored_on, tally_on, IsPaid, EachLawful}
 
 -- How many streams ended: no fewer where halves that ended stay so, and as many once limits were raised.
 
 -- Lists
 
 one_more : {X Y : Type 0} (b c : Bool) (x : X) (y : Y) (xs : List X) (ys : List Y) → (b ≡ true → c ≡ true) → length xs ≤ length ys → length (cond b (x ∷ xs) xs) ≤ length (cond c (y ∷ ys) ys)
-one_more true true x y xs ys stays le = omega (arith, le)
-one_more true false x y xs ys stays le = absurd (both_ways false refl (stays refl))
-one_more false true x y xs ys stays le = omega (arith, le)
-one_more false false x y xs ys stays le = le
+one_more b c x y xs ys stays le = grind arith
 
 same_more : {X Y : Type 0} (b : Bool) (x : X) (y : Y) (xs : List X) (ys : List Y) → length xs ≡ length ys → length (cond b (x ∷ xs) xs) ≡ length (cond b (y ∷ ys) ys)
-same_more true x y xs ys e = ap suc e
-same_more false x y xs ys e = e
+same_more b x y xs ys e = grind arith
 
 -- each place of the first list is one of the second, and keeps what R says
 abbrev KeptAt : {X : Type 0} → (X → X → Type 0) → List X → List X → Type 0
@@ -97,15 +93,13 @@ kept_table {X} R t u k few kept i x is = let (y, there, r) = kept (i * 4 + k) x 
 
 each_table : {X : Type 0} (f : X → X) (t : Tables X) (k : ℕ) → table (each f t) k ≡ map f (table t k)
 unfolding each
-each_table f t (suc (suc (suc k))) = refl
-each_table f t _ = refl
+each_table f t k = grind arith
 
 -- Whole steps
 
 -- a step is one stream at least
 pub one_step : (o : Option Share) (grant : ℕ) → 0 < count_step o grant
-one_step None grant = omega arith
-one_step (Some share) grant = omega arith
+one_step o grant = grind arith
 
 -- whole steps are at most all
 pub steps_within : (k n : ℕ) → 0 < k → in_steps k n ≤ n
@@ -117,10 +111,6 @@ steps_more k a b pos le = mul-le-mul_right k (le-div (a / k) b k pos (omega (ari
 
 pub count_more : (s : Settings) (t : Tuning) (d : Dir) (grant a b : ℕ) → a ≤ b → count_after s t d grant a ≤ count_after s t d grant b
 count_more s t d grant a b le = (let more = steps_more (count_step t.count_step grant) a b (one_step t.count_step grant) le in omega (arith, more))
-
--- where none ended the next count is the grant
-pub count_first : (s : Settings) (t : Tuning) (d : Dir) (grant n : ℕ) → n ≡ 0 → grant ≤ lifetime s d → count_after s t d grant n ≡ grant
-count_first s t d grant n none le = omega (arith, none, le, steps_within (count_step t.count_step grant) n (one_step t.count_step grant))
 
 -- Ends
 
@@ -142,31 +132,23 @@ ended_grows a b role recvs sends Uni =
 
 -- Limits that rise end no stream.
 pub ended_settle : (e : End) (d : Dir) → ended (settle e) d ≡ ended e d
-ended_settle e Bidi = ap (λ xs. length (filter both_ended (zip xs (table e.sends (peer_type e Bidi))))) (each_table raise e.recvs (peer_type e Bidi)) ∙ both_raised (table e.recvs (peer_type e Bidi)) (table e.sends (peer_type e Bidi))
-ended_settle e Uni = ap (λ xs. length (filter recv_ended xs)) (each_table raise e.recvs (peer_type e Uni)) ∙ recvs_raised (table e.recvs (peer_type e Uni))
+ended_settle e d = grind (arith, nat_tests, each_table, both_raised, recvs_raised)
 
 greater_twice : (g c : ℕ) → max (max g c) c ≡ max g c
 greater_twice g c = omega arith
 
 pub next_settle : (e : End) (d : Dir) → next_count (settle e) d ≡ next_count e d
-next_settle e Bidi =
-    ap (λ n. max (next_count e Bidi) (count_after e.settings e.tuning Bidi e.present.grant_bidi n)) (ended_settle e Bidi)
-    ∙ greater_twice e.granted_bidi (count_after e.settings e.tuning Bidi e.present.grant_bidi (ended e Bidi))
-next_settle e Uni =
-    ap (λ n. max (next_count e Uni) (count_after e.settings e.tuning Uni e.present.grant_uni n)) (ended_settle e Uni)
-    ∙ greater_twice e.granted_uni (count_after e.settings e.tuning Uni e.present.grant_uni (ended e Uni))
+next_settle e d = grind (arith, nat_tests, ended_settle, greater_twice)
 
 pub counts_settle : (e : End) → CountsAreSettled (settle e)
-counts_settle e Bidi = sym (next_settle e Bidi)
-counts_settle e Uni = sym (next_settle e Uni)
+counts_settle e d = grind (arith, nat_tests, next_settle)
 
 pub counts_stand : (e : End) → CountsStand e → CountsStand (settle e)
 counts_stand e h = (omega (arith, h.0), omega (arith, h.1))
 
 -- no count falls where those of each direction don't
 pub counts_rise : (a b : End) → a.granted_bidi ≤ b.granted_bidi → a.granted_uni ≤ b.granted_uni → CountsRise a b
-counts_rise a b bidi uni Bidi = bidi
-counts_rise a b bidi uni Uni = uni
+counts_rise a b bidi uni d = grind arith
 
 -- A sound end stores at most what it granted, and a new end is sound.
 
@@ -187,12 +169,10 @@ stored_and_taken l h = by_use (is_some l.reset_code || is_some l.stop_code) h.di
         omega arith
 
 slot_within : (role : Role) (s : Settings) (n : ℕ) (o : Option RecvLane) → HasLawfulLane role s n o → value (λ l. fmap.len l.arrived.stored + taken l) o ≤ value highest o
-slot_within role s n None h = omega arith
-slot_within role s n (Some l) h = stored_and_taken l h.0
+slot_within role s n o h = grind (arith, nat_tests, stored_and_taken)
 
 few_counts : (e : End) → CountsStand e → (d : Dir) → granted_streams e d ≤ lifetime e.settings d
-few_counts e h Bidi = h.0
-few_counts e h Uni = h.1
+few_counts e h d = grind arith
 
 pub within_credit : (e : End) → IsSound e → IsWithinCredit e
 within_credit e h =
@@ -213,8 +193,7 @@ within_credit e h =
 -- A new end
 
 pub no_table : {X : Type 0} (k : ℕ) → table (no_streams {X = X}) k ≡ []
-no_table (suc (suc (suc k))) = refl
-no_table _ = refl
+no_table k = grind arith
 
 pub no_lane : {X : Type 0} (n : ℕ) → lookup (no_streams {X = X}) n ≡ None
 unfolding lookup
@@ -222,20 +201,9 @@ no_lane n = ap (λ xs. slice_get xs (n / 4)) (no_table (n % 4))
 
 new_end_in_credit : (role : Role) (s : Settings) (t : Tuning) (p : PeerLimits) → are_in_wide_range s ≡ true → IsInCredit (new_end role s t p)
 unfolding total
-new_end_in_credit role s t p fits =
-    record {
-      settings = fits;
-      present = record { some = grind (arith, nat_tests, fits); widest = omega arith; small = grind (arith, nat_tests, fits); bidi = grind (arith, nat_tests, fits); uni = grind (arith, nat_tests, fits) };
-      lanes = λ n. subst (HasLawfulLane role s n) (sym (no_lane n)) tt;
-      spent = omega arith;
-      in_window = omega arith;
-    }
+new_end_in_credit role s t p fits = grind (arith, nat_tests, no_lane)
 
 -- none of its streams ended
-
-none_ended : (role : Role) (s : Settings) (t : Tuning) (p : PeerLimits) (d : Dir) → ended (new_end role s t p) d ≡ 0
-none_ended role s t p Bidi = ap (λ (xs : List RecvLane). length (filter both_ended (zip xs (table (no_streams {X = SendLane}) (1 - role_bit role))))) (no_table (1 - role_bit role))
-none_ended role s t p Uni = ap (λ (xs : List RecvLane). length (filter recv_ended xs)) (no_table (3 - role_bit role))
 
 pub record GrantsFit (s : Settings) : Type 0 where
   pub bidi : s.grant_bidi ≤ s.lifetime_bidi
@@ -244,27 +212,19 @@ pub record GrantsFit (s : Settings) : Type 0 where
 grants_fit : (s : Settings) → are_in_wide_range s ≡ true → GrantsFit s
 grants_fit s h = record { bidi = grind (arith, nat_tests, h); uni = grind (arith, nat_tests, h) }
 
-new_end_settled : (role : Role) (s : Settings) (t : Tuning) (p : PeerLimits) → are_in_wide_range s ≡ true → CountsAreSettled (new_end role s t p)
-new_end_settled role s t p fits Bidi = omega (arith, count_first s t Bidi s.grant_bidi (ended (new_end role s t p) Bidi) (none_ended role s t p Bidi) (grants_fit s fits).bidi)
-new_end_settled role s t p fits Uni = omega (arith, count_first s t Uni s.grant_uni (ended (new_end role s t p) Uni) (none_ended role s t p Uni) (grants_fit s fits).uni)
-
 new_end_sound : (role : Role) (s : Settings) (t : Tuning) (p : PeerLimits) → are_in_wide_range s ≡ true → IsSound (new_end role s t p)
 new_end_sound role s t p fits = (new_end_in_credit role s t p fits, ((grants_fit s fits).bidi, (grants_fit s fits).uni))
 
 in_range : (a b c : Bool) → cond (not (a && b)) (Some OutOfRange) (cond (not c) (Some TooManyStreams) None) ≡ None → a ≡ true
-in_range true b c e = refl
-in_range false b c e = absurd (none-some OutOfRange (sym e))
+in_range a b c e = grind arith
 
 pub made_end : (o : Option SetupFault) (x e : End) → end_unless o x ≡ Ok e → (o ≡ None) × (x ≡ e)
-made_end None x e made = (refl, cc)
-made_end (Some fault) x e made = absurd (cc)
+made_end o x e made = grind arith
 
 -- what is in a script's ranges is in the wide ones
 
 pub no_wide_fault : (s : Settings) (p : PeerLimits) → setup_fault s p ≡ None → wide_setup_fault s p ≡ None
-no_wide_fault s p none =
-    let fits = in_range (are_in_range s) (are_spellable p) (are_countable p) none in
-    ap (λ b. fault_where b p) ((grind (arith, nat_tests, fits)) ∙ sym fits) ∙ none
+no_wide_fault s p none = grind (arith, nat_tests, in_range)
 
 pub new_ends_wide : (role : Role) (s : Settings) (p : PeerLimits) (e : End) → end_made role s p ≡ Ok e → wide_end_made role s default_tuning p ≡ Ok e
 new_ends_wide role s p e made =
@@ -277,43 +237,20 @@ new_ends_sound role s t p e made =
     subst IsSound is (new_end_sound role s t p (in_range (are_in_wide_range s) (are_spellable p) (are_countable p) none))
 
 pub new_ends_settled : (role : Role) (s : Settings) (t : Tuning) (p : PeerLimits) (e : End) → wide_end_made role s t p ≡ Ok e → CountsAreSettled e
-new_ends_settled role s t p e made =
-    let (none, is) = made_end (wide_setup_fault s p) (new_end role s t p) e made in
-    subst CountsAreSettled is (new_end_settled role s t p (in_range (are_in_wide_range s) (are_spellable p) (are_countable p) none))
+new_ends_settled role s t p e made = grind (arith, nat_tests)
 
 -- The sums over the receiving lanes of one type of stream, where one of them changes, and where some are opened.
 
 -- One lane among all
 
-sum_part : (f : RecvLane → ℕ) (xs : List RecvLane) (i : ℕ) (x : RecvLane) → i < length xs → x ≡ get_or xs i x → f x ≤ sum_by f xs
-sum_part f xs i x there is =
-    let le = get_or-le-sum_by f xs i x there in
-    let e : f (get_or xs i x) ≡ f x = ap f (sym is) in
-    omega (arith, le, e)
-
-sum_set : (f : RecvLane → ℕ) (xs : List RecvLane) (i : ℕ) (x y : RecvLane) → i < length xs → x ≡ get_or xs i x → sum_by f (set xs i y) ≡ sum_by f xs - f x + f y
-sum_set f xs i x y there is =
-    let le = sum_part f xs i x there is in
-    let whole = sum_by-set f xs i y x there in
-    let e : f (get_or xs i x) ≡ f x = ap f (sym is) in
-    omega (arith, le, e, whole)
-
 abbrev sums : ℕ → ℕ → ℕ → ℕ → Tally
 sums spent taken stored count = record { spent = spent; taken = taken; stored = stored; noted = count }
 
 same_tally : (a b : Tally) → a.spent ≡ b.spent → a.taken ≡ b.taken → a.stored ≡ b.stored → a.noted ≡ b.noted → a ≡ b
-same_tally a b p q r t =
-    ap (λ k. sums k a.taken a.stored a.noted) p
-    ∙ ap (λ k. sums b.spent k a.stored a.noted) q
-    ∙ ap (λ k. sums b.spent b.taken k a.noted) r
-    ∙ ap (sums b.spent b.taken b.stored) t
-
-pub tally_set : (xs : List RecvLane) (i : ℕ) (x y : RecvLane) → i < length xs → x ≡ get_or xs i x → tally_on (set xs i y) ≡ moved (tally_on xs) (tally_of x) (tally_of y)
-tally_set xs i x y there is = same_tally _ _ (sum_set highest xs i x y there is) (sum_set taken xs i x y there is) (sum_set stored_on xs i x y there is) (sum_set noted xs i x y there is)
+same_tally a b p q r t = grind arith
 
 noted_within : (l : RecvLane) → IsLawful l → noted l ≤ highest l
-noted_within l h =
-    cond_both ((l.reader_done && is_whole l) || is_some l.reset_code) 0 _ (λ k. k ≤ highest l) (λ _. omega arith) (λ _. omega (arith, starts_below_end l.arrived.received, h.received_within))
+noted_within l h = grind (arith, nat_tests, cond_both, starts_below_end)
 
 pub each_paid : (xs : List RecvLane) → EachLawful xs → IsPaid (tally_on xs)
 each_paid [] each = record { moved = omega arith; noted = omega arith }

@@ -1,14 +1,14 @@
 -- What an end keeps as frames come and as a call ends.
-use Rattle.std.proofs.Common.{◌≡◌, ℕ, ◌+◌, ◌≤◌, Bool, true, false, not, ◌&&◌, cond, nat_eq, List, [], ◌∷◌, length, Option, Some, None, is_some, refl, sym, ap, ◌∙◌, subst, arith}
+use Rattle.std.proofs.Common.{◌≡◌, ℕ, ◌+◌, ◌≤◌, Bool, true, false, not, ◌&&◌, cond, List, [], ◌∷◌, length, Option, Some, None, is_some, refl, ◌∙◌, subst, arith}
 use Rattle.std.specs.Prelude.{⊤, IsOk}
 use Rattle.std.specs.FinMap as fmap
-use Rattle.std.proofs.lemmas.Bool.{both_ways, cond_both}
+use Rattle.std.proofs.lemmas.Bool.{cond_both}
 use Rattle.std.proofs.lemmas.Bool.Decides.{nat_tests}
 use Rattle.qs_wire.specs.declared.stream_id.Dir.TheVariants.{Bidi, Uni}
 use Rattle.qs_recv.specs.Lane.{RecvLane, new_lane as new_recv_lane, check_stream, check_reset, take_stream, take_reset, raise}
 use Rattle.qs_recv.specs.declared.credit.Share.TheVariants.{Half}
 use Rattle.qs_recv.specs.Lawful.{IsLawful}
-use Rattle.qs_send.specs.Lane.{SendLane, new_lane as new_send_lane, reset_refusal, is_whole, acked_lane, first_code, stop_taken, reset_acked_lane, allow_lane}
+use Rattle.qs_send.specs.Lane.{SendLane, new_lane as new_send_lane, reset_refusal, acked_lane, first_code, stop_taken, reset_acked_lane, allow_lane}
 use Rattle.qs_send.specs.Records.{IsCarried, without_first}
 use Rattle.qs_send.specs.declared.parts.Chunk.{Chunk}
 use Rattle.qs_send.specs.declared.parts.SendFault.{SendFault}
@@ -30,7 +30,7 @@ use Rattle.qs_machine.specs.Standing.{IsInCredit, CountsStand, HasLawfulLane}
 use Rattle.qs_machine.specs.Repeats.{IsWritten, WasWritten, SentWasWritten}
 use Rattle.std.specs.List.{AllByRecursion}
 use Rattle.qs_machine.proofs.Pieces.{All_more, all_named}
-use Rattle.qs_machine.proofs.EndedHalves.{RecvStays, SendStays, reset_by, new_reset_keeps, reset_acked_keeps, whole_acked, acked_keeps}
+use Rattle.qs_machine.proofs.EndedHalves.{RecvStays, SendStays, reset_acked_keeps, whole_acked, acked_keeps}
 use Rattle.qs_machine.proofs.Counts.{counts_stand}
 use Rattle.qs_machine.proofs.CallsSound.{sound_opened}
 use Rattle.qs_machine.proofs.Taken.{stream_checked, reset_checked}
@@ -55,32 +55,17 @@ pub half_twice : (l m k : SendLane) → HalfAfter l m → HalfAfter m k → Half
 half_twice l m k a b = record { limit = omega (arith, a.limit, b.limit); written = omega (arith, a.written, b.written); refused = λ is. b.refused (a.refused is); stopped = λ is. b.stopped (a.stopped is); ended = λ is. b.ended (a.ended is) }
 
 pub has_code : (o : Option ℕ) (code : ℕ) → is_some (first_code o code) ≡ true
-has_code None code = refl
-has_code (Some first) code = refl
+has_code o code = grind arith
 
 half_stopped : (answers : Bool) (l : SendLane) (code : ℕ) → HalfAfter l (stop_taken answers l code)
-half_stopped true l code =
-    cond_both (is_some (reset_refusal l)) l (record l { stopped = first_code l.stopped code }) (HalfAfter l) (λ _. half_same l) (λ _.
-    record { limit = omega arith; written = omega arith; refused = λ is. is; stopped = λ is. has_code l.stopped code; ended = λ is. is })
-half_stopped false l code =
-    cond_both (is_some (reset_refusal l)) l (record (reset_by code l) { stopped = first_code l.stopped code }) (HalfAfter l) (λ _. half_same l) (λ allowed.
-    record { limit = omega arith; written = omega arith; refused = λ is. refl; stopped = λ is. has_code l.stopped code; ended = new_reset_keeps code l allowed })
+half_stopped answers l code = grind arith
 
 refused_more : (a b c : Bool) → (b ≡ true → c ≡ true) → is_some {T = SendFault} (cond a (Some WasReset) (cond b (Some Finished) None)) ≡ true → is_some {T = SendFault} (cond a (Some WasReset) (cond c (Some Finished) None)) ≡ true
-refused_more true b c more is = refl
-refused_more false true c more is = ap (λ d. is_some {T = SendFault} (cond d (Some Finished) None)) (more refl)
-refused_more false false c more is = absurd (both_ways false refl is)
+refused_more a b c more is = grind arith
 
 -- what is acknowledged twice stays whole, where it was written
 half_acked : (l : SendLane) (c : Chunk) → c.offset + c.len ≤ l.written → HalfAfter l (acked_lane l c)
-half_acked l c within =
-    record {
-      limit = omega arith;
-      written = omega arith;
-      refused = refused_more (is_some l.was_reset) (is_whole l) (is_whole (acked_lane l c)) (whole_acked l c within);
-      stopped = λ is. is;
-      ended = acked_keeps l c within;
-    }
+half_acked l c within = grind (arith, nat_tests, refused_more, whole_acked, acked_keeps)
 
 -- Ends
 
@@ -125,23 +110,7 @@ after_by : {e : End} {s : Tables SendLane} {r : Tables RecvLane} {g x y d b u : 
     → ((late : Bool) (k : ℕ) → IsBare (fmap.get (held late e) k) → IsBare (fmap.get (held late (record e { outstanding = out; lost = lost })) k))
     → ((late : Bool) (p : Piece) → IsCarried (held late (record e { outstanding = out; lost = lost })) p → IsCarried (held late e) p)
     → IsAfter e (record e { sends = s; recvs = r; granted = g; granted_bidi = x; granted_uni = y; known_data = d; known_bidi = b; known_uni = u; outstanding = out; lost = lost })
-after_by ss rr dd bb uu xx yy counts bare carried =
-    record {
-      role = refl;
-      settings = refl;
-      tuning = refl;
-      next = omega arith;
-      credit = dd;
-      bidi = bb;
-      uni = uu;
-      bidi_granted = xx;
-      uni_granted = yy;
-      counts = counts;
-      recvs = rr;
-      sends = ss;
-      bare = bare;
-      carried = carried;
-    }
+after_by ss rr dd bb uu xx yy counts bare carried = grind arith
 
 -- an end whose tables and known limits moved
 after_parts : (e : End) (s : Tables SendLane) (r : Tables RecvLane) (g d b u : ℕ) → KeptIn HalfAfter e.sends s → KeptIn LaneAfter e.recvs r → e.known_data ≤ d → e.known_bidi ≤ b → e.known_uni ≤ u
@@ -209,22 +178,15 @@ after_settle e =
 -- Acknowledgements
 
 bare_rest : (o : Option (List Piece)) → IsBare o → IsBare (rest_of o)
-bare_rest (Some (p ∷ q ∷ ps)) h = absurd h
-bare_rest _ h = tt
+bare_rest o h = grind arith
 
 pub bare_less : (m : Records) (k n : ℕ) → IsBare (fmap.get m n) → IsBare (fmap.get (without_first m k (fmap.get m k)) n)
-bare_less m k n h = subst IsBare (sym (get-without_first m k n)) (go (nat_eq n k) refl)
-  where
-    go : (b : Bool) → nat_eq n k ≡ b → IsBare (cond b (rest_of (fmap.get m k)) (fmap.get m n))
-    go true same = let e : n ≡ k = grind (arith, nat_tests, same) in bare_rest (fmap.get m k) (subst (λ j. IsBare (fmap.get m j)) e h)
-    go false other = h
+bare_less m k n h = grind (arith, nat_tests, get-without_first, rest_of, bare_rest)
 
 -- a record without its first piece, the outstanding one or the lost one
 
 pub bare_without : (late b : Bool) (k : ℕ) (e : End) (j : ℕ) → IsBare (fmap.get (held late e) j) → IsBare (fmap.get (held late (without_piece b k e)) j)
-bare_without true true k e j h = bare_less e.lost.pieces k j h
-bare_without false false k e j h = bare_less e.outstanding k j h
-bare_without _ _ k e j h = h
+bare_without late b k e j h = grind (arith, nat_tests, bare_less)
 
 pub carried_without : (late b : Bool) (k : ℕ) (e : End) (p : Piece) → IsCarried (held late (without_piece b k e)) p → IsCarried (held late e) p
 carried_without true true k e p is = carried-without_first e.lost.pieces k p is
@@ -259,12 +221,7 @@ after_first a e written =
 
 -- what was written stays written, where no half has fewer bytes
 pub written_stays : (R : SendLane → SendLane → Type 0) → ((l m : SendLane) → R l m → l.written ≤ m.written) → (t u : Tables SendLane) → KeptIn R t u → (p : Piece) → WasWritten t p → WasWritten u p
-written_stays R longer t u kept (Told i) h = tt
-written_stays R longer t u kept (Data n c) h = go (lookup t n) refl h
-  where
-    go : (o : Option SendLane) → lookup t n ≡ o → IsWritten o c → IsWritten (lookup u n) c
-    go None is none = absurd none
-    go (Some l) is within = let (m, there, r) = kept n l is in let more = longer l m r in subst (λ x. IsWritten x c) (sym there) (omega (arith, within, more))
+written_stays R longer t u kept p h = grind arith
 
 half_longer : (l m : SendLane) → HalfAfter l m → l.written ≤ m.written
 half_longer l m r = r.written

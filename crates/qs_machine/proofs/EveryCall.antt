@@ -1,14 +1,12 @@
 -- One induction over all calls of an end: each is made of a few changes, and most end as the limits move; after a closing nothing changes.
-use Rattle.std.proofs.Common.{◌≡◌, Bool, true, false, Option, Some, None, refl, sym, ℕ, ◌≤◌, ◌-◌, List, length, take, min, arith, ◌+◌, ◌*◌, ◌||◌, ◌&&◌, [], ◌∷◌, ◌++◌, drop, append-nil, is_some, ap, ◌∙◌, subst, inl, inr, zero, suc}
-use Rattle.std.specs.Prelude.{MatchBool, Result, cond, ⊤, not, nat_eq, nat_lt, nat_le, Ok, Err}
-use Rattle.std.proofs.lemmas.Bool.{false≢true, cond_both}
+use Rattle.std.proofs.Common.{◌≡◌, Bool, true, false, Option, Some, None, refl, sym, ℕ, ◌≤◌, ◌-◌, List, length, take, arith, ◌+◌, ◌*◌, ◌||◌, [], ◌∷◌, ◌++◌, drop, append-nil, is_some, ap, ◌∙◌, subst, inl, inr, zero, suc}
+use Rattle.std.specs.Prelude.{MatchBool, Result, cond, ⊤, nat_lt, Ok, Err}
 use Rattle.qs_machine.specs.Ends.{End, send_lane, recv_lane, on_send, on_recv, opens, closes}
-use Rattle.qs_machine.specs.Owner.{Certain, at_most, accepted_by, OpenStep, AcceptStep, AcceptOfStep, ReadBy, ConsumeStep, with_wanted, first_refusal, refuse_if, no_half, half_refusal, send_refusal, recv_refusal, is_read_no_more, IsBlocked, IsOpened, GivesNone, GivesBidi, GivesUni, AcceptOpen, AcceptOpenOf, peer_type, next_stream}
+use Rattle.qs_machine.specs.Owner.{Certain, accepted_by, OpenStep, AcceptStep, AcceptOfStep, ReadBy, ConsumeStep, with_wanted, first_refusal, refuse_if, no_half, half_refusal, send_refusal, recv_refusal, is_read_no_more, IsBlocked, IsOpened, GivesNone, GivesBidi, GivesUni, AcceptOpen, AcceptOpenOf, peer_type, next_stream}
 use Rattle.std.proofs.lemmas.List.{length-take, take-append-drop}
 use Rattle.qs_ranges.specs.Numbers.{MAX_VARINT}
 use Rattle.qs_send.specs.Lane.{SendLane, accepted, refusal, reset_refusal, write_lane, finish_lane, reset_lane}
-use Rattle.qs_machine.specs.Credit.{credit_for, window_left, settle}
-use Rattle.std.specs.FinSet as set
+use Rattle.qs_machine.specs.Credit.{settle}
 use Rattle.std.specs.FinMap as fmap
 use Rattle.std.proofs.lemmas.Option.{none-some}
 use Rattle.std.proofs.lemmas.Bool.Decides.{nat_tests}
@@ -17,10 +15,9 @@ use Rattle.qs_wire.specs.Reading.{reading_of}
 use Rattle.qs_wire.specs.declared.fault.WireFault.{WireFault}
 use Rattle.qs_wire.specs.declared.stream_id.Dir.{Dir}
 use Rattle.qs_wire.specs.declared.stream_id.Dir.TheVariants.{Bidi, Uni}
-use Rattle.qs_recv.specs.Lane.{after_read, stop, stop_and_discard, RecvLane}
+use Rattle.qs_recv.specs.Lane.{after_read, stop, stop_and_discard}
 use Rattle.qs_recv.specs.declared.half.Read.{Read}
 use Rattle.qs_send.specs.Records.{IsCarried}
-use Rattle.qs_send.specs.declared.parts.SendFault.{SendFault}
 use Rattle.qs_send.specs.declared.piece.Piece.{Piece}
 use Rattle.qs_send.proofs.Carrying.{rest_of, get_same-without_first}
 use Rattle.qs_calls.specs.declared.closing.Closing.{Closing}
@@ -43,7 +40,6 @@ use Rattle.qs_calls.specs.declared.token.TakeFault.{TakeFault}
 use Rattle.qs_calls.specs.declared.token.TakeFault.TheVariants as faults
 use Rattle.qs_calls.specs.declared.token.Token.{Token}
 use Rattle.qs_calls.specs.declared.token.TokenFault.{TokenFault}
-use Rattle.qs_calls.specs.declared.token.TokenFault.TheVariants as tokens
 use Rattle.qs_calls.specs.declared.uses.OpenFault.TheVariants as opening
 use Rattle.qs_calls.specs.declared.uses.UseFault.{UseFault}
 use Rattle.qs_calls.specs.declared.uses.UseFault.TheVariants as uses
@@ -53,59 +49,44 @@ use Rattle.qs_machine.specs.Verdicts.{verdict}
 use Rattle.qs_machine.specs.FrameStep.{frame_taken, acks, named}
 use Rattle.qs_machine.specs.Recording.{recorded}
 use Rattle.qs_machine.specs.Lawful.{MayPut, Fills, frame_put}
-use Rattle.qs_machine.specs.Receiving.{noted_by, noted_closed, ClosedReceive, AtEnd, RunsOut, Stops, GoesOn, Takes, ReceiveBy, TakesPayload, OpenReceive}
+use Rattle.qs_machine.specs.Receiving.{noted_closed, ClosedReceive, AtEnd, RunsOut, Stops, GoesOn, Takes, ReceiveBy, TakesPayload, OpenReceive}
 use Rattle.qs_machine.specs.Making.{MakeAt, MakeAckAt, make_refusal, claim_refusal, LoseStep, lose_refusal, first_lost, losses}
 use Rattle.qs_machine.specs.Filling.{FillAt}
 use Rattle.qs_machine.specs.Alone.{is_ours, TakesOne, TakeBy, TakesEach, TakeAllBy, token_refusal, only, LosesEach, TokenAckedStep, TokenLostStep}
 use Rattle.qs_machine.specs.Raising.{limits_raised, raise_refusal}
 use Rattle.qs_machine.specs.Setting.{Setting, SetStep, set_refusal, with_setting}
 use Rattle.qs_machine.specs.EndStep.{Call, Answer, EndStep, Open, Accept, AcceptOf, Write, Finish, Reset, Stop, ReadUpTo, Consume, Receive, TakeFrame, TakeFrames, TokenAcked, TokenLost, Make, MakeAck, FillIn, Lose, Claim, RaiseLimits, Set, StopAndDiscard, NoteClosed}
-use Rattle.qs_machine.specs.Tables.{Tables}
-use Rattle.qs_machine.specs.Laws.{StaysOnceClosed, StaysButRead}
+use Rattle.qs_machine.specs.Laws.{StaysOnceClosed}
 
 -- The cases of a call: what is refused, what is tested.
 
 -- a call that is refused changes nothing
 pub by_refusal : {A F : Type 0} (P : Type 0) (r : Option F) (old : End) (answer : Result A F) (new : End) (Effect : Type 0) → Certain r old answer new Effect → (new ≡ old → P) → (Effect → P) → P
-by_refusal P (Some fault) old answer new Effect h same effect = same h.1
-by_refusal P None old answer new Effect h same effect = effect h
+by_refusal P r old answer new Effect h same effect = grind arith
 
 -- the same, with what tells that nothing was refused
 pub if_allowed : {A F : Type 0} (P : Type 0) (r : Option F) (old : End) (answer : Result A F) (new : End) (Effect : Type 0) → Certain r old answer new Effect → (new ≡ old → P) → (r ≡ None → Effect → P) → P
-if_allowed P (Some fault) old answer new Effect h same effect = same h.1
-if_allowed P None old answer new Effect h same effect = effect refl h
+if_allowed P r old answer new Effect h same effect = grind arith
 
 pub by_test : (P : Type 0) (b : Bool) (Yes No : Type 0) → MatchBool b Yes No → (Yes → P) → (No → P) → P
-by_test P true Yes No h if_so if_not = if_so h
-by_test P false Yes No h if_so if_not = if_not h
+by_test P b Yes No h if_so if_not = grind arith
 
 -- what both branches have alike, either has
 pub same_either : {X Y : Type 0} (f : X → Y) (b : Bool) (x y : X) → f y ≡ f x → f (cond b x y) ≡ f x
-same_either f true x y e = refl
-same_either f false x y e = e
+same_either f b x y e = grind arith
 
 -- what is chosen by a test that failed
 pub not_chosen : {A : Type 0} (b : Bool) (x y : A) → b ≡ false → cond b x y ≡ y
-not_chosen true x y e = absurd (false≢true (sym e))
-not_chosen false x y e = refl
+not_chosen b x y e = grind arith
 
 -- A write takes no more than its half has room for, whatever credit and the window over all halves leave.
 
-at_most_few : (o : Option ℕ) (n : ℕ) → at_most o n ≤ n
-at_most_few None n = omega arith
-at_most_few (Some left) n = omega arith
-
 pub accepted_few : (e : End) (l : SendLane) (n : ℕ) → accepted_by e l n ≤ accepted l n
-accepted_few e l n =
-    let few = at_most_few (window_left e) (cond e.tuning.within_credit (min (accepted l n) (credit_for e l)) (accepted l n)) in
-    let cut = cond_both e.tuning.within_credit (min (accepted l n) (credit_for e l)) (accepted l n) (λ k. k ≤ accepted l n) (λ _. omega arith) (λ _. omega arith) in
-    omega (arith, few, cut)
+accepted_few e l n = grind arith
 
 -- no offset past the greatest integer is written
 pub few_taken : (e : End) (l : SendLane) (bytes : List ℕ) → length (take (accepted_by e l (length bytes)) bytes) ≤ MAX_VARINT - l.written
-few_taken e l bytes =
-    let few : accepted l (length bytes) ≤ MAX_VARINT - l.written = omega arith in
-    omega (arith, length-take (accepted_by e l (length bytes)) bytes, few, accepted_few e l (length bytes))
+few_taken e l bytes = grind (arith, nat_tests, length-take, accepted_few)
 
 -- One induction over all calls of an end: each is made of a few changes, and most end as the limits move.
 
@@ -205,58 +186,30 @@ stops_by P p f e (Ok received) new stops shut out = absurd stops
 
 -- a frame after which the processing goes on has no fault
 pub no_fault_there : (e : End) (f : Seen) → GoesOn e f → verdict e f ≡ None
-no_fault_there e (Close code) goes = absurd goes
-no_fault_there e f goes = goes
+no_fault_there e f goes = grind arith
 
 -- an ACK of a packet whose token was given is no fault
-given_is_no_fault : (e : End) (t : Token) → token_refusal e t ≡ None → verdict e (only t) ≡ None
+pub given_is_no_fault : (e : End) (t : Token) → token_refusal e t ≡ None → verdict e (only t) ≡ None
 unfolding verdict
-given_is_no_fault e t allowed = (let made : nat_le e.next t.number ≡ false = go (is_some e.closed) (nat_eq t.epoch e.tuning.epoch) (nat_le t.first t.number) allowed in rw made refl)
-  where
-    by : (made : Bool) → refuse_if (not made) tokens.NotGiven ≡ None → made ≡ true
-    by true h = refl
-    by false h = absurd (none-some _ (sym h))
-
-    go : (closed own ordered : Bool) → first_refusal (refuse_if closed tokens.Closed) (refuse_if (not (own && (ordered && nat_lt t.number e.next))) tokens.NotGiven) ≡ None → nat_le e.next t.number ≡ false
-    go false true true h = grind (arith, nat_tests, (by (nat_lt t.number e.next) h))
-    go _ own ordered h = absurd (none-some _ (sym h))
+given_is_no_fault e t allowed = grind arith
 
 -- what comes of a payload at an end that is open: it isn't taken and changes nothing, or it is taken
 pub by_open : (P : Type 0) (number : ℕ) (payload : List ℕ) (old : End) (result : Result Received Closing) (new : End) → OpenReceive number payload old result new
     → (result ≡ Ok received.BelowFloor → new ≡ old → P) → (result ≡ Ok received.Duplicate → new ≡ old → P)
     → (nat_lt number old.floor ≡ false → (mid : End) → TakesPayload number payload old result mid → new ≡ settle mid → P) → P
-by_open P number payload old result new step below again taken = by_floor (nat_lt number old.floor) refl step
-  where
-    Taken : Type 0
-    Taken = (mid : End) × TakesPayload number payload old result mid × (new ≡ settle mid)
-
-    by_done : nat_lt number old.floor ≡ false → (b : Bool) → MatchBool b ((result ≡ Ok received.Duplicate) × (new ≡ old)) Taken → P
-    by_done high true h = again h.0 h.1
-    by_done high false (mid, takes, is) = taken high mid takes is
-
-    by_floor : (b : Bool) → nat_lt number old.floor ≡ b → MatchBool b ((result ≡ Ok received.BelowFloor) × (new ≡ old)) (MatchBool (set.contains old.done number) ((result ≡ Ok received.Duplicate) × (new ≡ old)) Taken) → P
-    by_floor true low h = below h.0 h.1
-    by_floor false high h = by_done high (set.contains old.done number) h
+by_open P number payload old result new step below again taken = grind arith
 
 -- a closed end stays as it is
 pub closed_same : (c : Closed) (old : End) (result : Result Received Closing) (new : End) → ClosedReceive c old result new → new ≡ old
-closed_same (ByUs closing) old result new h = h.1
-closed_same c old result new h = h.1
+closed_same c old result new h = grind arith
 
 -- a half that takes bytes refuses none
 half_allowed : (closed other : Bool) (o : Option SendLane) → first_refusal (refuse_if closed uses.Closed) (elim o [ None ↦ Some (no_half other) | Some l ↦ half_refusal (refusal l) ]) ≡ None → (l : SendLane) → o ≡ Some l → refusal l ≡ None
-half_allowed true other o h l is = absurd (none-some uses.Closed (sym h))
-half_allowed false other None h l is = absurd (none-some l is)
-half_allowed false other (Some k) h l is = subst (λ o. elim o as (λ _. Type 0) [ None ↦ Unit {0} | Some m ↦ refusal m ≡ None ]) is (no_refusal (refusal k) h)
-  where
-    no_refusal : (r : Option SendFault) → half_refusal r ≡ None → r ≡ None
-    no_refusal None e = refl
-    no_refusal (Some fault) e = absurd (none-some _ (sym e))
+half_allowed closed other o h l is = grind arith
 
 -- a frame that may close the end is the peer's
 pub hears : (call : Call) → MovesStanding call → HearsPeer call
-hears (TokenAcked t) comes = tt
-hears call comes = comes
+hears call comes = grind arith
 
 module _ (old : End) (call : Call) (Q P : End → Type 0) (c : Cases old call Q P) where
   same : (new : End) → new ≡ old → P new
@@ -436,11 +389,7 @@ module _ (old : End) (call : Call) (Q P : End → Type 0) (c : Cases old call Q 
   read_by None n size answer bytes new (l, is, told, given, after) = edited (WasRead n size) new tt after
 
   shut_by : MovesStanding call → (close : NotedClose) (new : End) → new ≡ noted_closed close old → P new
-  shut_by comes close new is = subst P (sym is) (by old.closed)
-    where
-      by : (o : Option Closed) → P (noted_by o close old)
-      by None = c.shuts comes close
-      by (Some closed) = c.stays
+  shut_by comes close new is = grind arith
 
   consume_by : (n most : ℕ) (answer : Result Consumed UseFault) (new : End) → ConsumeStep old n most answer new → P new
   consume_by n most answer new step =
@@ -501,72 +450,5 @@ module _ (P : End → Type 0) (old : End) (kept : P old) (settles : (e : End) �
 
 -- After a closing nothing changes but the number of the next packet, and what is read on.
 
--- what was taken, and the limits that follow it
-but_read : (old new : End) (recvs : Tables RecvLane) (g bidi uni : ℕ) → new ≡ record old { recvs = recvs; granted = g; granted_bidi = bidi; granted_uni = uni } → StaysButRead true old new
-but_read old new recvs g bidi uni same =
-    same ∙ ap (λ (e : End). record old { recvs = e.recvs; granted = e.granted; granted_bidi = e.granted_bidi; granted_uni = e.granted_uni }) (sym same)
-
-unread : (chosen : Bool) (old new : End) → new ≡ old → StaysButRead chosen old new
-unread true old new same = but_read old new old.recvs old.granted old.granted_bidi old.granted_uni same
-unread false old new same = same
-
-read_on : (b chosen : Bool) (r : Option UseFault) (old : End) (n size : ℕ) (answer : Answer (ReadUpTo n size)) (new : End) → b ≡ true
-    → ReadBy (first_refusal (refuse_if (b && not chosen) uses.Closed) r) old n size answer.0 answer.1 new → StaysButRead chosen old new
-read_on false chosen r old n size answer new is h = absurd (false≢true is)
-read_on true false r old n size answer new is h = h.2
-read_on true true (Some fault) old n size answer new is h = unread true old new h.2
-read_on true true None old n size answer new is (l, at, told, given, after) = but_read old new _ _ _ _ after
-
-consumed_on : (b chosen : Bool) (r : Option UseFault) (old : End) (n most : ℕ) (answer : Result Consumed UseFault) (new : End) (A B : RecvLane → Type 0) → b ≡ true
-    → Certain (first_refusal (refuse_if (b && not chosen) uses.Closed) r) old answer new ((l : RecvLane) × A l × B l × (new ≡ settle (on_recv n (λ m. after_read m 0) (on_recv n (λ m. after_read m most) old)))) → StaysButRead chosen old new
-consumed_on false chosen r old n most answer new A B is h = absurd (false≢true is)
-consumed_on true false r old n most answer new A B is h = h.1
-consumed_on true true (Some fault) old n most answer new A B is h = unread true old new h.1
-consumed_on true true None old n most answer new A B is (l, a, b, after) = but_read old new _ _ _ _ after
-
-receive_again : (c : Option Closed) (number : ℕ) (payload : List ℕ) (old : End) (result : Result Received Closing) (new : End) → is_some c ≡ true → ReceiveBy c number payload old result new → new ≡ old
-receive_again None number payload old result new is h = absurd (false≢true is)
-receive_again (Some (ByUs closing)) number payload old result new is h = h.1
-receive_again c number payload old result new is h = h.1
-
-take_again : (c : Option Closed) (f : FrameValue) (old : End) (answer : Result Taken TakeFault) (new : End) → is_some c ≡ true → TakeBy c f old answer new → new ≡ old
-take_again None f old answer new is h = absurd (false≢true is)
-take_again (Some closed) f old answer new is h = h.1
-
-take_all_again : (c : Option Closed) (fs : List FrameValue) (old : End) (answer : Result Taken TakeFault) (new : End) → is_some c ≡ true → TakeAllBy c fs old answer new → new ≡ old
-take_all_again None fs old answer new is h = absurd (false≢true is)
-take_all_again (Some closed) fs old answer new is h = h.1
-
-told_again : (c : Option Closed) (close : NotedClose) (old new : End) → is_some c ≡ true → new ≡ noted_by c close old → new ≡ old
-told_again None close old new is h = absurd (false≢true is)
-told_again (Some closed) close old new is h = h
-
--- a number that was claimed
-but_number : (old new : End) (n : ℕ) → new ≡ record old { next = n } → new ≡ record old { next = new.next }
-but_number old new n same = same ∙ ap (λ (e : End). record old { next = e.next }) (sym same)
-
 pub closed_stays : (old : End) (call : Call) (answer : Answer call) (new : End) → is_some old.closed ≡ true → EndStep old call answer new → StaysOnceClosed old call new
-closed_stays old (Open d) answer new is h = (rw is at h).1
-closed_stays old Accept answer new is h = (rw is at h).1
-closed_stays old (AcceptOf d) answer new is h = (rw is at h).1
-closed_stays old (Write n bytes) answer new is h = (rw is at h).1
-closed_stays old (Finish n) answer new is h = (rw is at h).1
-closed_stays old (Reset n code) answer new is h = (rw is at h).1
-closed_stays old (Stop n code) answer new is h = (rw is at h).1
-closed_stays old (StopAndDiscard n code) answer new is h = (rw is at h).1
-closed_stays old (ReadUpTo n size) answer new is h = read_on (is_some old.closed) old.tuning.reads_when_closed _ old n size answer new is h
-closed_stays old (Consume n most) answer new is h = consumed_on (is_some old.closed) old.tuning.reads_when_closed _ old n most answer.0 new _ _ is h.0
-closed_stays old (Receive k payload) answer new is h = receive_again old.closed k payload old answer new is h
-closed_stays old (TakeFrame f) answer new is h = take_again old.closed f old answer new is h
-closed_stays old (TakeFrames fs) answer new is h = take_all_again old.closed fs old answer new is h
-closed_stays old (TokenAcked t) answer new is h = (rw is at h).1
-closed_stays old (TokenLost t) answer new is h = (rw is at h).1
-closed_stays old (Make first delay room) answer new is h = (rw is at h).2
-closed_stays old (MakeAck delay room) answer new is h = (rw is at h).2
-closed_stays old (FillIn want room) answer new is h = (rw is at h).2
-closed_stays old (Lose k) answer new is h = (rw is at h).1
-closed_stays old Claim answer new is h = by_refusal (new ≡ record old { next = new.next }) (claim_refusal old) old answer new _ h (but_number old new old.next) (λ done. but_number old new (old.next + 1) done.1)
-closed_stays old (RaiseLimits p) answer new is h = (rw is at h).1
-closed_stays old (Set x) answer new is h = (rw is at h).1
-closed_stays old (NoteClosed close) answer new is h = told_again old.closed close old new is h
-closed_stays old call answer new is h = h.1
+closed_stays old call answer new is h = grind arith

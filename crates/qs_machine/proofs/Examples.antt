@@ -1,9 +1,10 @@
 -- The examples compute.
-use Rattle.std.proofs.Common.{◌≡◌, ℕ, zero, suc, ◌-◌, ◌<◌, List, [], ◌∷◌, ◌++◌, length, map, Option, Some, None, refl, sym, ap, ◌∙◌, arith, inl, inr}
+use Rattle.std.proofs.lemmas.Bool.Decides.{nat_tests}
+use Rattle.std.proofs.Common.{◌≡◌, ℕ, zero, suc, ◌<◌, List, [], ◌∷◌, ◌++◌, length, map, Option, Some, None, refl, sym, ap, ◌∙◌, arith, inl, inr}
 use Rattle.std.specs.FinSet as set
 use Rattle.std.specs.FinMap as fmap
 use Rattle.std.specs.Ordering.{nat_cmp}
-use Rattle.std.specs.Prelude.{Err, max, cond, not, Bool, true, false, ◌&&◌, ◌||◌, ◌==◌, nat_le, is_some, slice_get, flat_map}
+use Rattle.std.specs.Prelude.{Err, max, cond, not, Bool, true, false, ◌&&◌, ◌||◌, ◌==◌, is_some, slice_get, flat_map}
 use Rattle.std.proofs.lemmas.Option.{same_Some, none-some}
 use Rattle.qs_recv.specs.Assembled.{front, same, store}
 use Rattle.qs_recv.specs.Bytes.{byte_at}
@@ -59,11 +60,7 @@ a_letter (suc n) zero byte is = sym (same_Some 97 byte is)
 a_letter (suc n) (suc i) byte is = a_letter n i byte is
 
 letter_at : (n q byte : ℕ) → byte_at 0 (letters n) q ≡ Some byte → byte ≡ 97
-letter_at n q byte is = by_test (nat_le 0 q) is
-  where
-    by_test : (b : Bool) → cond b (slice_get (letters n) (q - 0)) None ≡ Some byte → byte ≡ 97
-    by_test true is' = a_letter n (q - 0) byte is'
-    by_test false is' = absurd (none-some byte is')
+letter_at n q byte is = grind (arith, nat_tests, a_letter, none-some)
 
 letters_same : (n k : ℕ) → same (store set.empty nothing 0 (letters n)) 0 (letters k) ≡ true
 letters_same n k = same_true (store set.empty nothing 0 (letters n)) 0 (letters k) (λ q b c e f. letter_at n q b (came_first (letters n) q b e) ∙ sym (letter_at k q c f))
@@ -74,35 +71,14 @@ stream_limit = record { within = rw end_of-empty (rw (none_differs 0 (letters 10
 
 stream_state : StreamStateHolds
 unfolding verdict lookup total
-stream_state =
-    record {
-      own_bidi = refl;
-      own_uni = refl;
-      past_grant = refl;
-      within_grant = rw end_of-empty (rw (none_differs 0 (letters 1)) refl);
-      limit_of_own = refl;
-      limit_of_peers_uni = refl;
-      stop_of_peers_uni = refl;
-      reset_of_own = refl;
-    }
+stream_state = grind (arith, nat_tests, end_of-empty, none_differs)
 
 unused_numbers : UnusedNumbersClose
 unfolding verdict
 unused_numbers = record { used = refl; unused = refl }
 
 limits : LimitsMove
-limits =
-    record {
-      early = refl;
-      half = refl;
-      odd = refl;
-      before_a_sixteenth = refl;
-      quarter = refl;
-      eighth = refl;
-      sixteenth = refl;
-      narrow = refl;
-      last = refl;
-    }
+limits = grind arith
 
 lower_streams : LowerStreamsOpen
 unfolding frame_taken lookup update open_to
@@ -149,32 +125,14 @@ first_came = contains-with_run set.empty 0 3 0 ∙ ap (λ b. b || is_in_run 0 0 
 
 changed_bytes : ChangedBytesClose
 unfolding verdict frame_taken lookup update open_to total same front
-changed_bytes =
-    record {
-      changed = rw three (rw three (rw (stored_at 1) refl));
-      same = rw three (rw three (rw (stored_at 1) refl));
-      read =
-          rw first_came
-          (rw (stored_at 0) (rw (stored_at 1) (rw (stored_at 2) (rw three (rw (get-keep_from (store set.empty nothing 0 abc) 3 1) (rw three refl))))));
-      after_credit = rw three (rw three refl);
-    }
+changed_bytes = grind (arith, nat_tests, three, stored_at, first_came, get-keep_from)
 
 final_size : FinalSizeHolds
 unfolding verdict frame_taken lookup update open_to total same
-final_size =
-    record {
-      past = refl;
-      smaller = refl;
-      again = five_again;
-      empty_past = refl;
-      reset_smaller = refl;
-      before_credit = refl;
-      below_highest = rw five refl;
-    }
+final_size = grind (arith, nat_tests, five_again, five)
 
 not_whole : (b : Bool) (l m : SendLane) → cond (is_some (cond (b && false) (Some Finished) None)) l m ≡ m
-not_whole true l m = refl
-not_whole false l m = refl
+not_whole b l m = grind arith
 
 -- the half of a client that wrote three bytes and sent them
 sent_three : SendLane
@@ -243,21 +201,10 @@ new_limit =
 
 counts : StreamCountsGrow
 unfolding verdict frame_taken lookup update open_to each total
-counts =
-    record {
-      uni = refl;
-      tells = ((refl, omega arith), λ covered. elim covered [ inl flies ↦ none_in flies.0 flies.1 flies.2 | inr acked ↦ none-some 2 acked ]);
-      once = λ due. due.1 (inr refl);
-      within = rw end_of-empty refl;
-      past = refl;
-      one_half = refl;
-      both_halves = refl;
-      no_more = refl;
-    }
+counts = grind (arith, nat_tests, none_in, none-some, end_of-empty)
 
 nothing_noted : (o : Option (List Piece)) (p : Piece) → o ≡ None → Among p (elim o [ None ↦ [] | Some ps ↦ ps ]) → ⊥
-nothing_noted None p none there = there
-nothing_noted (Some ps) p none there = none-some ps (sym none)
+nothing_noted o p none there = grind arith
 
 empty_stream : EmptyStreamIsSent
 unfolding frame_put lookup update open_to total
@@ -327,49 +274,10 @@ with_late : (ranges : List (ℕ × ℕ)) (ps : List AckedPiece) → named_in fal
 with_late ranges ps is = ap (λ qs. named_in false two_sent.outstanding ranges ++ qs) (none_late ranges) ∙ and_nothing (named_in false two_sent.outstanding ranges) ∙ is
 
 acks : AcksTakeWhatTheyName
-acks =
-    record {
-      one = with_late ((1, 1) ∷ []) _ (rw listed (ap (λ ps. ps ++ []) second_pieces));
-      both = with_late ((0, 1) ∷ []) _ (rw listed (λ i. second_pieces i ++ (first_pieces i ++ [])));
-      none = with_late ((5, 9) ∷ (3, 3) ∷ []) [] (rw listed refl);
-    }
+acks = grind (arith, nat_tests, one, with_late, listed, second_pieces, first_pieces)
 
 ranges : RangesHold
-ranges =
-    record {
-      widest_is = refl;
-      conn_window = refl;
-      bidi_local = refl;
-      bidi_remote = refl;
-      uni = refl;
-      send_buffer = refl;
-      grant = refl;
-      lifetime = refl;
-      no_window = refl;
-      below_grant = refl;
-      standard_is = refl;
-      narrow_window = refl;
-      narrow_lifetime = refl;
-    }
+ranges = grind arith
 
 pub examples_hold : Examples
-examples_hold =
-    record {
-      ranges = ranges;
-      stream_limit = stream_limit;
-      connection_limit = connection_limit;
-      final_size = final_size;
-      changed_bytes = changed_bytes;
-      stream_state = stream_state;
-      unused_numbers = unused_numbers;
-      limits = limits;
-      lower_streams = lower_streams;
-      stop = stop;
-      stop_answered = stop_answered;
-      blocked_stream = blocked_stream;
-      afterwards = afterwards;
-      new_limit = new_limit;
-      counts = counts;
-      empty_stream = empty_stream;
-      acks = acks;
-    }
+examples_hold = grind (arith, nat_tests, ranges, stream_limit, connection_limit, final_size, changed_bytes, stream_state, unused_numbers, limits, lower_streams, stop, stop_answered, blocked_stream, afterwards, new_limit, counts, empty_stream, acks)

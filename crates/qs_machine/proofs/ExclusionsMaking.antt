@@ -1,5 +1,5 @@
 -- What the definitions exclude of packets: what is due, what one holds, what is filled in, and in which order.
-use Rattle.std.proofs.Common.{◌≡◌, ℕ, ◌<◌, ◌+◌, [], ◌∷◌, true, false, ◌||◌, None, refl, sym, ap, ◌∙◌, subst, arith, inl, inr, ◌≢◌, zero, suc, ◌-◌, ◌≤◌, ◌⊎◌, List, ◌++◌, take, drop, length, slice_index_or, Bool, cond, Option, Some, is_some, is_none}
+use Rattle.std.proofs.Common.{◌≡◌, ℕ, ◌<◌, ◌+◌, [], ◌∷◌, true, false, ◌||◌, None, refl, sym, ap, ◌∙◌, subst, arith, inl, inr, ◌≢◌, ◌-◌, ◌≤◌, ◌⊎◌, List, ◌++◌, take, drop, length, slice_index_or, Bool, cond, Option, Some, is_some}
 use Rattle.std.specs.FinMap as fmap
 use Rattle.std.specs.FinSet as set
 use Rattle.std.specs.Ordering.{nat_cmp, eq_by_cmp}
@@ -9,12 +9,11 @@ use Rattle.std.proofs.lemmas.Bool.{false≢true, true≢false, both_ways}
 use Rattle.std.proofs.lemmas.Bool.Decides.{nat_tests}
 use Rattle.qs_ranges.specs.Numbers.{NumberSet, contains-numbers, contains-with_range, numbers, covers}
 use Rattle.qs_ranges.proofs.Sets.{covers-of, end_of-empty, missing_from-past}
-use Rattle.qs_recv.specs.Lane.{RecvLane, is_whole}
+use Rattle.qs_recv.specs.Lane.{is_whole}
 use Rattle.qs_send.specs.Lane.{SendLane, unacked_from}
 use Rattle.qs_send.specs.Records.{IsCarried, Among, PacketPieces, without_first}
 use Rattle.qs_send.specs.declared.parts.Chunk.{Chunk}
-use Rattle.qs_send.specs.declared.parts.Reset.{Reset}
-use Rattle.qs_send.specs.declared.piece.Item.TheVariants.{MaxData, MaxStreamData, MaxStreams, ResetStream, StopSending, DataBlocked, StreamDataBlocked, StreamsBlocked}
+use Rattle.qs_send.specs.declared.piece.Item.TheVariants.{MaxData, MaxStreams, ResetStream, StopSending}
 use Rattle.qs_send.specs.declared.piece.Piece.{Piece}
 use Rattle.qs_send.specs.declared.piece.Piece.TheVariants.{Data, Told}
 use Rattle.qs_send.proofs.Carrying.{carried-empty}
@@ -22,7 +21,7 @@ use Rattle.qs_machine.specs.Tables.{lookup, total, update}
 use Rattle.qs_machine.specs.Due.{IsDue, IsCurrent, StreamGoes, Sendable, IsDueItem}
 use Rattle.qs_machine.specs.SmallEnds.{client_with, chunk, wrote, all_came, abc, owing}
 use Rattle.qs_machine.specs.ExclusionsDue.{NoOffsetIsDue, NoEndIsDue, NoLimitIsTold, NoAbortIsTold, NothingIsBlocked, ToldIsNotDue, NoneIsNoAnswer, NotDue}
-use Rattle.qs_machine.proofs.SmallEndsLaws.{one_carried, only_carried, only_open, none_in, no_member}
+use Rattle.qs_machine.proofs.SmallEndsLaws.{one_carried, only_carried, none_in, no_member}
 use Rattle.std.specs.Prelude.{Result, Ok, Err}
 use Rattle.std.specs.List.{AllByRecursion}
 use Rattle.std.proofs.lemmas.List.{length-append}
@@ -31,7 +30,7 @@ use Rattle.qs_wire.specs.Grammar.{Fits, canonical}
 use Rattle.qs_wire.proofs.Numbers.{short_byte, short_most}
 use Rattle.qs_wire.specs.Varint.{short}
 use Rattle.qs_send.specs.LostRecords.{with_piece, with_number, without_oldest}
-use Rattle.qs_wire.specs.declared.stream_id.Dir.TheVariants.{Bidi, Uni}
+use Rattle.qs_wire.specs.declared.stream_id.Dir.TheVariants.{Bidi}
 use Rattle.qs_send.specs.declared.piece.Item.{Item}
 use Rattle.qs_calls.specs.declared.making.Made.{Made}
 use Rattle.qs_calls.specs.declared.making.MakeFault.{MakeFault}
@@ -39,12 +38,11 @@ use Rattle.qs_calls.specs.declared.making.LostFault.{LostFault}
 use Rattle.qs_calls.specs.declared.making.LostFault.TheVariants as losing
 use Rattle.qs_machine.specs.Ends.{End, send_lane}
 use Rattle.qs_machine.specs.Credit.{all_sent, settle}
-use Rattle.qs_machine.specs.Seen.{Seen, Ack, Stream, Control, Close, Plain, seen_all, asks_ack, any_asks}
+use Rattle.qs_machine.specs.Seen.{Seen, Ack, Stream, Control, seen_all, asks_ack, any_asks}
 use Rattle.qs_machine.specs.FrameStep.{is_named}
 use Rattle.qs_machine.specs.Verdicts.{verdict}
-use Rattle.qs_machine.specs.Lawful.{MayPut, Fills, Lawful, frame_put, AreInTurn, pieces_so_far}
-use Rattle.qs_machine.specs.Owner.{Certain, first_refusal, refuse_if}
-use Rattle.qs_machine.specs.Making.{NamesMost, IsAckMade, LoseStep, losses, lose_refusal}
+use Rattle.qs_machine.specs.Lawful.{MayPut, Fills, Lawful, frame_put, pieces_so_far}
+use Rattle.qs_machine.specs.Making.{NamesMost, IsAckMade, LoseStep, losses}
 use Rattle.qs_machine.specs.Examples.{standard, server}
 use Rattle.qs_machine.specs.ExclusionsMaking.{NoSuchStreamFrame, NoSuchAck, NoSuchFrame, NoSuchPacket, NothingIsLeftOut, NothingIsOutOfTurn, NoSuchText, NoSuchAnswer, NoSuchAckAlone, NoSuchClaim, NoSuchLoss, NotMade, writer, two_due, two_writers, one_flying, two_flying}
 use Rattle.qs_machine.proofs.Ties.{nowhere}
@@ -53,7 +51,7 @@ use Rattle.qs_wire.specs.LastStream.{last_stream_of}
 use Rattle.qs_calls.specs.declared.filling.Fill.{Fill}
 use Rattle.qs_calls.specs.declared.filling.Filled.{Filled}
 use Rattle.qs_calls.specs.declared.token.Token.{Token}
-use Rattle.qs_machine.specs.Filling.{IsWanted, IsFilled, WantedGoes, stream_bytes, still_asked}
+use Rattle.qs_machine.specs.Filling.{IsWanted, IsFilled, WantedGoes, still_asked}
 use Rattle.qs_machine.specs.ExclusionsFilling.{NoSuchFrames, NothingWantedIsLeftOut, NoSuchFill, NotFilled, everything, items_alone, no_bytes}
 use Rattle.qs_machine.specs.InOrder.{AreInOrder, NothingStarves}
 use Rattle.qs_machine.specs.ExclusionsInOrder.{NothingIsStarved, two_resets, stopping, two_counts}
@@ -104,16 +102,7 @@ ends =
 
 limits : NoLimitIsTold
 unfolding lookup
-limits =
-    record {
-      other_data = λ is. (let e : 6000 ≡ 5000 = is.0 in omega arith);
-      first_data = λ is. (let lt : 4096 < 4096 = is.1 in omega arith);
-      other_stream_data = λ (l, at, value, more, fine). (let e : 3000 ≡ 2000 = value ∙ ap (λ (k : RecvLane). k.limit) (sym (same_Some _ l at)) in omega arith);
-      first_stream_data = λ (l, at, value, more, fine). (let lt : 1024 < 1024 = more in omega arith);
-      ended_stream_data = λ (l, at, value, more, fine). none-some 5 (sym (ap (λ (k : RecvLane). k.final_size) (same_Some _ l at) ∙ fine));
-      other_streams = λ is. (let e : 10 ≡ 9 = is.0 in omega arith);
-      first_streams = λ is. (let lt : 8 < 8 = is.1 in omega arith);
-    }
+limits = grind arith
 
 -- all bytes below a count came
 pub came_whole : (n : ℕ) → covers (set.union set.empty (numbers 0 n)) 0 n ≡ true
@@ -124,33 +113,11 @@ whole = came_whole 3
 
 aborts : NoAbortIsTold
 unfolding lookup
-aborts =
-    record {
-      no_reset = λ (l, at, reset). none-some _ (ap (λ (k : SendLane). k.was_reset) (same_Some _ l at) ∙ reset);
-      other_size = λ (l, at, reset). (let e : 0 ≡ 3 = ap (λ (r : Reset). r.size) (same_Some _ _ (ap (λ (k : SendLane). k.was_reset) (same_Some _ l at) ∙ reset)) in omega arith);
-      other_code = λ (l, at, reset). (let e : 7 ≡ 8 = ap (λ (r : Reset). r.code) (same_Some _ _ (ap (λ (k : SendLane). k.was_reset) (same_Some _ l at) ∙ reset)) in omega arith);
-      no_stop = λ (l, at, code, fine, more). none-some 7 (ap (λ (k : RecvLane). k.stop_code) (same_Some _ l at) ∙ code);
-      other_stop = λ (l, at, code, fine, more). (let e : 7 ≡ 8 = same_Some 7 8 (ap (λ (k : RecvLane). k.stop_code) (same_Some _ l at) ∙ code) in omega arith);
-      stop_after_reset = λ (l, at, code, fine, more). none-some 5 (sym (ap (λ (k : RecvLane). k.reset_code) (same_Some _ l at) ∙ fine));
-      stop_after_all = λ (l, at, code, fine, more). both_ways _ more (ap is_whole (sym (same_Some _ l at)) ∙ whole);
-    }
+aborts = grind (arith, nat_tests, none-some, same_Some, both_ways, whole)
 
 blocked : NothingIsBlocked
 unfolding lookup total
-blocked =
-    record {
-      other_data = λ is. (let e : 2 ≡ 5 = is.0 in omega arith);
-      credit_left = λ is. (let e : 2 ≡ 5 = is.1 in omega arith);
-      all_sent = λ (value, all, (n, l, wants)). (let lt : 2 < 2 = subst (λ (k : SendLane). k.sent_end < k.written) (only_open _ l n wants.lane) wants.more in omega arith);
-      own_limit = λ (value, all, (n, l, wants)). (let lt : 2 < 2 = subst (λ (k : SendLane). k.sent_end < k.limit) (only_open _ l n wants.lane) wants.below in omega arith);
-      after_reset = λ (value, all, (n, l, wants)). none-some _ (sym (ap (λ (k : SendLane). k.was_reset) (sym (only_open _ l n wants.lane)) ∙ wants.no_reset));
-      other_stream = λ (l, at, fine, value, more, end). (let e : 3 ≡ 2 = value ∙ ap (λ (k : SendLane). k.limit) (sym (same_Some _ l at)) in omega arith);
-      stream_all_below = λ (l, at, fine, value, more, end). (let lt : 2 < 2 = subst (λ (k : SendLane). k.limit < k.written) (sym (same_Some _ l at)) more in omega arith);
-      stream_unsent = λ (l, at, fine, value, more, end). (let e : 1 ≡ 2 = subst (λ (k : SendLane). k.sent_end ≡ k.limit) (sym (same_Some _ l at)) end in omega arith);
-      stream_after_reset = λ (l, at, fine, value, more, end). none-some _ (sym (ap (λ (k : SendLane). k.was_reset) (same_Some _ l at) ∙ fine));
-      none_wanted = λ is. none-some 8 is.0;
-      more_allowed = λ is. (let e : 8 ≡ 9 = is.1 in omega arith);
-    }
+blocked = grind arith
 
 told : ToldIsNotDue
 unfolding lookup
@@ -224,12 +191,10 @@ first_due l is = subst (λ k. IsDue writer 0 k 0) is (record {
 -- Pieces of the packet in the making
 
 found_there : (o : Option (List Piece)) (ps : List Piece) (p : Piece) → o ≡ Some ps → Among p ps → Among p (elim o [ None ↦ [] | Some qs ↦ qs ])
-found_there None ps p is a = absurd (none-some ps is)
-found_there (Some qs) ps p is a = subst (Among p) (sym (same_Some qs ps is)) a
+found_there o ps p is a = grind arith
 
 first_noted : (o : Option (List Piece)) (p : Piece) → o ≡ None → (elim o as (λ _. List Piece) [ None ↦ [] | Some qs ↦ qs ]) ++ p ∷ [] ≡ p ∷ []
-first_noted None p is = refl
-first_noted (Some qs) p is = absurd (none-some qs (sym is))
+first_noted o p is = grind arith
 
 -- nothing was outstanding, so the first piece stands alone in its packet
 alone : (p : Piece) → fmap.insert fmap.empty 0 ((elim (fmap.get {X = List Piece} {R = nat_cmp} fmap.empty 0) as (λ _. List Piece) [ None ↦ [] | Some qs ↦ qs ]) ++ p ∷ []) ≡ fmap.insert {R = nat_cmp} fmap.empty 0 (p ∷ [])
@@ -325,11 +290,7 @@ no_ack_in : (largest : ℕ) (ranges : List (ℕ × ℕ)) → Among (Ack largest 
 no_ack_in largest ranges a = elim a [ inl is ↦ false≢true (ap is_stream is) | inr none ↦ none ]
 
 too_few : (largest : ℕ) (ranges : List (ℕ × ℕ)) → Among (Ack largest ranges) (Ack 3 ((3, 3) ∷ []) ∷ Stream 0 0 abc false ∷ []) → is_named ranges 1 ≡ true → ⊥
-too_few largest ranges a named =
-    elim a [
-      | inl is ↦ false≢true (ap (λ f. is_named (ranges_of f) 1) (sym is) ∙ named)
-      | inr later ↦ no_ack_in largest ranges later
-    ]
+too_few largest ranges a named = grind arith
 
 left_out : NothingIsLeftOut
 unfolding lookup update total frame_put
@@ -371,12 +332,7 @@ turns =
 
 texts : NoSuchText
 unfolding canonical short
-texts =
-    record {
-      others = λ h. (let e : 2 ≡ 1 = ap (λ bs. slice_index_or bs 0 0) h.canonical in omega arith);
-      delayed = λ text h. (let e : 5 ≡ 0 = h.plain.0.0 in omega arith);
-      counted = λ text h. none-some _ (sym h.plain.0.1);
-    }
+texts = grind arith
 
 abbrev is_ok : {A F : Type 0} → Result A F → Bool
 is_ok (Ok a) = true
@@ -388,75 +344,29 @@ ok_is_no_err a f is = true≢false (ap is_ok is)
 -- one run more takes 16 bytes at most
 next_fits : (gap len : ℕ) → Fits (ack 3 0 (0 ∷ gap ∷ len ∷ []) None) → length (canonical (ack 3 0 (0 ∷ gap ∷ len ∷ []) None)) ≤ 21
 unfolding canonical
-next_fits gap len fits =
-    let vs = short gap ++ (short len ++ []) in
-    let below = fits.2.below in
-    omega (
-      arith,
-      ap length (short_byte 2 (omega arith)),
-      ap length (short_byte 3 (omega arith)),
-      ap length (short_byte 0 (omega arith)),
-      ap length (short_byte 1 (omega arith)),
-      short_most gap below.1.0,
-      short_most len below.1.1.0,
-      length-append (short gap) (short len ++ []),
-      length-append (short len) [],
-      length-append (short 0) vs,
-      length-append (short 1) (short 0 ++ vs),
-      length-append (short 1 ++ (short 0 ++ vs)) [],
-      length-append (short 0) ((short 1 ++ (short 0 ++ vs)) ++ []),
-      length-append (short 3) (short 0 ++ ((short 1 ++ (short 0 ++ vs)) ++ [])),
-      length-append (short 2) (short 3 ++ (short 0 ++ ((short 1 ++ (short 0 ++ vs)) ++ []))),
-    )
+next_fits gap len fits = grind (arith, nat_tests, short_byte, short_most, length-append)
 
 largest_alone : NamesMost owing 0 29 (ack 3 0 (0 ∷ []) None) → ⊥
-largest_alone (inl all) = false≢true (all 1 kept_1)
-largest_alone (inr next) = (let most = next_fits next.gap next.len next.fits in omega (arith, most, next.too_long))
+largest_alone h = grind (arith, nat_tests, false≢true, kept_1, next_fits)
 
 -- a server without a stream has nothing to tell
 pub no_item : (i : Item) → IsCurrent (server standard) i → ⊥
 unfolding total
-no_item (MaxStreamData n m) (l, there, at, low, size) = none-some l (sym (nowhere n) ∙ there)
-no_item (ResetStream n code size) (l, there, is) = none-some l (sym (nowhere n) ∙ there)
-no_item (StopSending n code) (l, there, at, reset, whole) = none-some l (sym (nowhere n) ∙ there)
-no_item (DataBlocked m) (is, all, some) = omega (arith, is, all)
-no_item (StreamDataBlocked n m) (l, there, reset, at, more, end) = none-some l (sym (nowhere n) ∙ there)
-no_item (StreamsBlocked Bidi m) c = none-some m c.0
-no_item (StreamsBlocked Uni m) c = none-some m c.0
-no_item _ c = omega (arith, c.0, c.1)
+no_item i h = grind (arith, nat_tests, none-some, nowhere, whole)
 
 pub none_due : Sendable (server standard) → ⊥
-none_due (inl due) = false≢true due
-none_due (inr (inl (i, due))) = no_item i due.0
-none_due (inr (inr (n, (l, there, goes)))) = none-some l (sym (nowhere n) ∙ there)
+none_due h = grind (arith, nat_tests, false≢true, no_item, none-some, nowhere)
 
 -- a packet that has a frame asks for an ACK, where none is due
 asks_first : (old : End) (f : Seen) → old.ack_due ≡ false → MayPut old old f → asks_ack f ≡ true
-asks_first old (Ack largest ranges) none may = absurd (true≢false (sym may.due ∙ none))
-asks_first old (Close code) none may = absurd may
-asks_first old (Plain asks) none may = absurd may
-asks_first old _ none may = refl
+asks_first old f none may = grind arith
 
 asks_some : (old mid : End) (fs : List Seen) → old.ack_due ≡ false → fs ≢ [] → Fills old old fs mid → any_asks fs ≡ true
 asks_some old mid [] none some fills = absurd (some refl)
 asks_some old mid (f ∷ fs) none some (may, rest) = ap (λ b. b || any_asks fs) (asks_first old f none may)
 
 answers : NoSuchAnswer
-answers =
-    record {
-      number = λ text new made. (let e : 1 ≡ 0 = made.number in omega arith);
-      len = λ new made. (let e : 2 ≡ 1 = made.len in omega arith);
-      asks_not = λ text new made. (let (mid, fills, after) = made.lawful.filled in false≢true (made.asks ∙ asks_some writer mid (seen_all made.frames) refl made.lawful.some fills));
-      no_room = λ made new is. (let le : 1 ≤ 0 = is.fits in omega arith);
-      largest_alone = λ made text new is frames. largest_alone (subst (λ fs. AllByRecursion (NamesMost owing 0 29) fs) frames is.acks).0;
-      closed = λ made text new step. ok_is_no_err _ _ step.0;
-      exhausted = λ made text new step. ok_is_no_err _ _ step.0;
-      last_number = λ new step. step;
-      not_closed = λ new step. step;
-      nothing_used = λ step. (let e : 1 ≡ 0 = ap (λ (e : End). e.next) step.2 in omega arith);
-      memory_used = λ step. (let e : 1 ≡ 0 = ap (λ (e : End). e.next) step.2 in omega arith);
-      nothing_due = λ text new step. none_due step.0;
-    }
+answers = grind (arith, nat_tests, false≢true, asks_some, largest_alone, ok_is_no_err, none_due)
 
 -- what a packet of an ACK alone leaves
 alone_is : (made : Made) (text : List ℕ) (new : End) → IsAckMade owing 0 1200 made text new → new ≡ settle (record owing { ack_due = false; next = 1 })
@@ -516,12 +426,7 @@ Loses ps old answer new =
 
 -- a packet that is outstanding is lost, at an end that is open
 lost_of : (old : End) (ps : List Piece) (answer : Result (Unit {0}) LostFault) (new : End) → old.closed ≡ None → fmap.get old.outstanding 0 ≡ Some ps → LoseStep old 0 answer new → Loses ps old answer new
-lost_of old ps answer new fine is step =
-    let (qs, at, loses) = subst (λ o. Certain o old answer new ((qs : List Piece) × (fmap.get old.outstanding 0 ≡ Some qs) × Loses qs old answer new)) refusal step in
-    subst (λ qs. Loses qs old answer new) (same_Some qs ps (sym at ∙ is)) loses
-  where
-    refusal : lose_refusal old 0 ≡ None
-    refusal = ap (λ o. first_refusal (refuse_if (is_some o) losing.Closed) (refuse_if (is_none (fmap.get old.outstanding 0)) losing.NotOutstanding)) fine ∙ ap (λ (o : Option (List Piece)). refuse_if (is_none o) losing.NotOutstanding) is
+lost_of old ps answer new fine is step = grind arith
 
 none_left : (ps qs : List Piece) (k : ℕ) → fmap.get (fmap.remove (fmap.insert (fmap.insert {R = nat_cmp} fmap.empty 0 ps) 0 qs) 0) k ≡ None
 none_left ps qs k = fmap.get-remove nat_cmp_total _ 0 k ∙ by_test (eq_by_cmp nat_cmp k 0) refl
@@ -556,43 +461,17 @@ piece_kept = ap (λ (o : Option (List Piece)). without_oldest (with_piece fmap.e
 
 some_stays : (moved : ℕ) → moved < 2 → fmap.get (losses 0 (take moved told_then_data) two_flying).outstanding 0 ≡ None → ⊥
 unfolding losses
-some_stays zero lt none = none-some _ (sym none ∙ got told_then_data)
-some_stays (suc zero) lt none = none-some _ (sym none ∙ ap (λ m. fmap.get m 0) first_is_lost ∙ once_got)
-some_stays (suc (suc moved)) lt none = omega arith
+some_stays moved lt none = grind (arith, nat_tests, none-some, got, first_is_lost, once_got)
 
 no_effect : (new : End) → LoseStep writer 0 (Ok tt) new → ⊥
-no_effect new step = by_refusal (lose_refusal writer 0) step
-  where
-    by_refusal : (o : Option LostFault) → Certain o writer (Ok (tt {0})) new ((ps : List Piece) × (fmap.get writer.outstanding 0 ≡ Some ps) × Loses ps writer (Ok (tt {0})) new) → ⊥
-    by_refusal (Some fault) h = ok_is_no_err _ _ h.0
-    by_refusal None h = none_in 0 h.0 h.1
+no_effect new step = grind (arith, nat_tests, ok_is_no_err, none_in)
 
 abbrev is_memory : Result (Unit {0}) LostFault → Bool
 is_memory (Err losing.NoMemory) = true
 is_memory answer = false
 
 lost : NoSuchLoss
-lost =
-    record {
-      unknown = no_effect;
-      closed = λ new step. ok_is_no_err _ _ step.0;
-      known = λ new step. elim (lost_of two_flying told_then_data _ new refl (got told_then_data) step) [
-        | inl done ↦ ok_is_no_err _ _ (sym done.0)
-        | inr part ↦ (let (moved, few, none, after) = part in false≢true (ap is_memory none))
-      ];
-      in_part = λ new step carried. elim (lost_of two_flying told_then_data _ new refl (got told_then_data) step) [
-        | inl done ↦ (let (k, ps, is, a) = carried in none-some ps (sym (none_left told_then_data data_left k) ∙ ap (λ m. fmap.get m k) (sym both_lost) ∙ ap (λ (e : End). fmap.get e.outstanding k) (sym done.1) ∙ is))
-        | inr part ↦ (let (moved, few, none, after) = part in ok_is_no_err _ _ none)
-      ];
-      not_kept = λ new step none. elim (lost_of one_flying data_left _ new refl (got data_left) step) [
-        | inl done ↦ none-some data_left (sym none ∙ ap (λ (e : End). fmap.get e.lost.pieces 0) done.1 ∙ ap (λ m. fmap.get m 0) piece_kept ∙ got data_left)
-        | inr part ↦ (let (moved, few, oom, after) = part in ok_is_no_err _ _ oom)
-      ];
-      whole = λ new step none. elim (lost_of two_flying told_then_data _ new refl (got told_then_data) step) [
-        | inl done ↦ ok_is_no_err _ _ (sym done.0)
-        | inr part ↦ (let (moved, few, oom, after) = part in some_stays moved few (ap (λ (e : End). fmap.get e.outstanding 0) (sym after) ∙ none))
-      ];
-    }
+lost = grind (arith, nat_tests, no_effect, ok_is_no_err, lost_of, got, none, false≢true, none-some, none_left, both_lost, piece_kept, whole, some_stays)
 
 pub not_made : NotMade
 not_made = record { stream = stream; acks = acks; others = others; packets = packets; left_out = left_out; turns = turns; texts = texts; answers = answers; alone = acked_alone; claims = claims; losses = lost }
@@ -605,32 +484,18 @@ wanted_are old want filled text new is frames same = subst (AllByRecursion (IsWa
 
 -- what is asked for once the cap is used up was asked for before
 still_fewer : (want : Fill) (left : ℕ) (e : End) → WantedGoes (still_asked want left) e → WantedGoes want e
-still_fewer want zero e (inl some) = inl some
-still_fewer want zero e (inr (n, asked, goes)) = absurd (false≢true asked.0)
-still_fewer want (suc left) e goes = goes
+still_fewer want left e h = grind arith
 
 -- items are asked for still
 still_items : (left : ℕ) (e : End) → WantedGoes items_alone e → WantedGoes (still_asked everything left) e
-still_items zero e goes = goes
-still_items (suc left) e (inl some) = inl some
-still_items (suc left) e (inr (n, asked, goes)) = absurd (false≢true asked.0)
+still_items left e goes = grind arith
 
 -- and no stream where the cap is none
 still_none : (left : ℕ) (e : End) → left ≡ 0 → WantedGoes (still_asked (record no_bytes { items = false }) left) e → ⊥
-still_none zero e is (inl (on, some)) = false≢true on
-still_none zero e is (inr (n, asked, goes)) = false≢true asked.0
-still_none (suc left) e is goes = omega (arith, is)
+still_none left e is h = grind arith
 
 frames : NoSuchFrames
-frames =
-    record {
-      no_ack = λ filled text new is same. (wanted_are _ _ filled text new is _ same).0;
-      item = λ filled text new is same. false≢true (wanted_are _ _ filled text new is _ same).0;
-      bytes = λ filled text new is same. false≢true (wanted_are _ _ filled text new is _ same).0.0;
-      other = λ filled text new is same. elim (wanted_are _ _ filled text new is _ same).0.1 [ inl all ↦ true≢false all | inr one ↦ omega (arith, one) ];
-      past_cap = λ filled text new is same. (let le : 3 ≤ 2 = subst (λ fs. stream_bytes fs ≤ 2) same is.capped in omega (arith, le));
-      turns = λ filled text new is same. not_made.turns.first_ignored (subst (AreInTurn 4 _) same is.made.turn);
-    }
+frames = grind (arith, nat_tests, wanted_are, false≢true, true≢false, turns)
 
 -- the first byte of the writer goes
 byte_goes : StreamGoes writer 0

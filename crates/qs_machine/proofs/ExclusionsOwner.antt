@@ -1,32 +1,28 @@
 -- What the definitions exclude of the calls of an owner, of its questions, of news, and of what it heard.
-use Rattle.std.proofs.Common.{◌≡◌, ℕ, List, [], ◌∷◌, length, take, Bool, true, false, cond, ◌&&◌, Option, Some, None, is_some, refl, sym, ap, ◌∙◌, subst, ◌<◌, arith, inl, inr, ◌||◌, slice_index, if◌then◌else◌, zero, suc, ◌==◌}
+use Rattle.std.proofs.Common.{◌≡◌, ℕ, List, [], ◌∷◌, length, Bool, true, false, ◌&&◌, Option, Some, None, refl, sym, ap, ◌∙◌, subst, arith, inl, slice_index, if◌then◌else◌}
 use Rattle.std.specs.Prelude.{Result, Ok, Err}
 use Rattle.std.specs.FinSet as set
 use Rattle.std.specs.Ordering.{nat_cmp}
 use Rattle.std.proofs.lemmas.Option.{same_Some, none-some}
-use Rattle.std.proofs.lemmas.Bool.{false≢true, true≢false, and_right, both_ways}
-use Rattle.qs_recv.specs.Lane.{RecvLane, read_answer, after_answer, after_read, noted, is_whole, bytes_of, stop, stop_and_discard}
+use Rattle.std.proofs.lemmas.Bool.{false≢true, true≢false, both_ways}
+use Rattle.qs_recv.specs.Lane.{RecvLane, read_answer, noted, stop, stop_and_discard}
 use Rattle.qs_recv.specs.declared.half.Read.{Read}
 use Rattle.qs_recv.specs.declared.half.Read.TheVariants as reads
-use Rattle.qs_send.specs.Lane.{SendLane, write_lane, refusal, reset_refusal, unacked_from}
+use Rattle.qs_send.specs.Lane.{SendLane}
 use Rattle.qs_send.specs.declared.parts.Reset.{Reset}
-use Rattle.qs_send.specs.declared.parts.SendFault.{SendFault}
-use Rattle.qs_send.specs.declared.parts.SendFault.TheVariants as faults
 use Rattle.qs_calls.specs.declared.reading.Consumed.{Consumed}
 use Rattle.qs_calls.specs.declared.uses.OpenFault.{OpenFault}
 use Rattle.qs_calls.specs.declared.uses.OpenFault.TheVariants as opening
 use Rattle.qs_calls.specs.declared.uses.UseFault.{UseFault}
 use Rattle.qs_calls.specs.declared.uses.UseFault.TheVariants.{NoSuchStream}
 use Rattle.qs_machine.specs.Tables.{lookup, update, open_to, each, total}
-use Rattle.qs_machine.specs.Ends.{End, send_lane, recv_lane, on_send}
-use Rattle.qs_machine.specs.Credit.{settle, recv_ended, send_ended}
+use Rattle.qs_machine.specs.Ends.{End}
+use Rattle.qs_machine.specs.Credit.{recv_ended, send_ended}
 use Rattle.qs_machine.specs.FrameStep.{frame_taken}
-use Rattle.qs_machine.specs.Owner.{Certain, send_refusal, accepted_by, is_end, WriteStep}
-use Rattle.qs_machine.specs.SmallEnds.{client_with, abc, begun, wrote, sent, reset_half, fresh, server_with, all_came, only, finished, three_came}
-use Rattle.qs_machine.specs.ExclusionsOwner.{NoSuchOpening, NoSuchAccepting, NoSuchAcceptingOf, NoSuchSending, NoSuchWriting, NoSuchKeeping, NoSuchReading, LimitsSettle, SetsNoMore, SetsNoMoreOfIt, NotOwned, prudent, bounded, two_with, NoSuchForgetting}
+use Rattle.qs_machine.specs.SmallEnds.{client_with, begun, wrote, reset_half, fresh, server_with, all_came, only, finished, three_came}
+use Rattle.qs_machine.specs.ExclusionsOwner.{NoSuchOpening, NoSuchAccepting, NoSuchAcceptingOf, NoSuchSending, NoSuchWriting, NoSuchKeeping, NoSuchReading, LimitsSettle, SetsNoMore, SetsNoMoreOfIt, NotOwned, NoSuchForgetting}
 use Rattle.qs_machine.proofs.EveryCall.{not_chosen}
 use Rattle.qs_machine.proofs.ExclusionsMaking.{ok_is_no_err, came_whole}
-use Rattle.std.specs.FinMap as map
 use Rattle.std.proofs.lemmas.Bool.Decides.{nat_tests}
 use Rattle.qs_ranges.specs.Numbers.{numbers, missing_from, contains-numbers, contains-with_range, run_starts}
 use Rattle.qs_ranges.specs.Runs.{set_of}
@@ -34,7 +30,7 @@ use Rattle.qs_ranges.proofs.Count.{len-run_starts}
 use Rattle.qs_ranges.proofs.Members.{set_of-is}
 use Rattle.qs_ranges.proofs.Starts.{starts_below_end}
 use Rattle.qs_ranges.proofs.Sets.{end_of-empty, missing_from-of}
-use Rattle.qs_recv.specs.Assembled.{front, front_from, front_of}
+use Rattle.qs_recv.specs.Assembled.{front, front_of}
 use Rattle.qs_recv.specs.News.{tells_something, is_readable}
 use Rattle.qs_recv.specs.Peek.{IsFront}
 use Rattle.qs_recv.proofs.AssembledLaws.{get-insert_nat}
@@ -45,8 +41,8 @@ use Rattle.qs_machine.specs.News.{IsHeld, IsReadable, HasForPacket}
 use Rattle.qs_machine.specs.ExclusionsNews.{NoSuchSearch, NotReadable, NotSendable, NotWritable, NotOver, NotFound}
 use Rattle.qs_ranges.specs.declared.NoMemory.{NoMemory}
 use Rattle.qs_calls.specs.declared.news.News.{News}
-use Rattle.qs_calls.specs.declared.news.News.TheVariants.{Opened, Readable, Writable, Stopped, Finished, ResetAcked, Ended}
-use Rattle.qs_machine.specs.Heard.{Hearing, heard_nothing, IsNews, HasFinished, WasResetAcked, ComesBefore, IsFirstNews, TakesMemory, is_told}
+use Rattle.qs_calls.specs.declared.news.News.TheVariants.{Opened, Readable}
+use Rattle.qs_machine.specs.Heard.{Hearing, heard_nothing, IsNews, ComesBefore, IsFirstNews, TakesMemory, is_told}
 use Rattle.qs_machine.specs.ExclusionsHeard.{heard_one, reset_came, NoNews, NotFirst, NotRefused, NotNoted, NotHeard}
 use Rattle.std.proofs.Math.Bool.{and-false}
 
@@ -88,55 +84,13 @@ told_at (Some l) = l.reader_done
 told_at None = false
 
 openings : NoSuchOpening
-openings =
-    record {
-      past_count = λ n new h. ok_is_no_err _ _ h.0;
-      within_count = λ new h. elim h [ inl none ↦ true≢false (ap is_blocked none.0) | inr is ↦ ok_is_no_err _ _ (sym is.0) ];
-      other_count = λ new h. (let e : 1 ≡ 0 = ap count_of h.0 in omega arith);
-      other_stream = λ new h. elim h [ inl none ↦ ok_is_no_err _ _ none.0 | inr is ↦ (let e : 4 ≡ 0 = ap count_of is.0 in omega arith) ];
-      peers_stream = λ new h. elim h [ inl none ↦ ok_is_no_err _ _ none.0 | inr is ↦ (let e : 1 ≡ 0 = ap count_of is.0 in omega arith) ];
-      closed = λ n new h. ok_is_no_err _ _ h.0;
-      not_noted = λ new h none. none-some 0 (sym none ∙ ap (λ (e : End). e.wanted_bidi) h.1);
-      opened = λ new h fine. elim h [
-        | inl none ↦ (let e : 0 ≡ 1 = ap (λ (e : End). length e.sends.client_bidi) (sym none.1) ∙ ap length fine in omega arith)
-        | inr is ↦ ok_is_no_err _ _ (sym is.0)
-      ];
-    }
+openings = grind arith
 
 acceptings : NoSuchAccepting
-acceptings =
-    record {
-      unopened = λ n new h. none-some n (sym h.0);
-      opened = λ new h. none-some _ h.0;
-      twice = λ n new h. none-some n (sym h.0);
-      closed = λ n new h. none-some n (sym h.0);
-      not_noted = λ new h zero. (let e : 1 ≡ 0 = ap (λ (e : End). e.accepted_bidi) (sym h.1) ∙ zero in omega arith);
-    }
+acceptings = grind arith
 
 acceptings_of : NoSuchAcceptingOf
-acceptings_of =
-    record {
-      opened = λ new h. none-some _ h.0;
-      other_way = λ new h. (let e : 0 ≡ 2 = same_Some _ _ h.0 in omega arith);
-      other_alone = λ n new h. none-some n (sym h.0);
-      twice = λ n new h. none-some n (sym h.0);
-      closed = λ n new h. none-some n (sym h.0);
-      not_noted = λ new h zero. (let e : 1 ≡ 0 = ap (λ (e : End). e.accepted_bidi) (sym h.1) ∙ zero in omega arith);
-      other_noted = λ new h one. (let e : 0 ≡ 1 = ap (λ (e : End). e.accepted_bidi) (sym h.1) ∙ one in omega arith);
-    }
-
--- a call that was done had its effect
-effect : {A F : Type 0} (o : Option F) (old : End) (a : A) (new : End) (Effect : Type 0) → Certain o old (Ok a) new Effect → Effect
-effect (Some fault) old a new Effect h = absurd (ok_is_no_err _ _ h.0)
-effect None old a new Effect h = h
-
--- a write that gave a count accepted as much as its half takes
-wrote_count : (n : ℕ) (e : End) (half : SendLane) (count : ℕ) (new : End) → send_lane e n ≡ Some half → WriteStep e n abc (Ok count) new → count ≡ accepted_by e half 3
-wrote_count n e half count new there h =
-    elim (effect (send_refusal e n refusal) e count new _ h) [
-      | inl none ↦ absurd (ok_is_no_err _ _ none.0)
-      | inr (l, at, done) ↦ ap number_of done.0 ∙ ap (λ (k : SendLane). accepted_by e k 3) (same_Some l half (sym at ∙ there))
-    ]
+acceptings_of = grind arith
 
 -- what was written to the first of some halves
 abbrev first_written : List SendLane → ℕ
@@ -146,79 +100,21 @@ first_written (l ∷ ls) = l.written
 abbrev written_of : End → ℕ
 written_of e = first_written e.sends.client_bidi
 
-not_whole : reset_refusal wrote ≡ None
-not_whole = not_chosen (_ && false) (Some faults.Finished) None (and_right _ false refl)
-
 abbrev size_of : Option Reset → ℕ
 size_of None = 0
 size_of (Some r) = r.size
 
 sendings : NoSuchSending
 unfolding lookup update
-sendings =
-    record {
-      fewer = λ new h. (let e : 2 ≡ 3 = wrote_count 0 (client_with begun) _ 2 new refl h in omega arith);
-      more = λ new h. (let e : 3 ≡ 2 = wrote_count 0 (client_with (record begun { buffer = 2 })) _ 3 new refl h in omega arith);
-      unopened = λ n new h. ok_is_no_err _ _ h.0;
-      not_its = λ new h. true≢false (ap is_unknown h.0);
-      after_finish = λ n new h. ok_is_no_err _ _ h.0;
-      after_reset = λ n new h. ok_is_no_err _ _ h.0;
-      closed = λ n new h. ok_is_no_err _ _ h.0;
-      accepted = λ h. elim h [
-        | inl none ↦ (let e : 3 ≡ 0 = ap written_of none.1 in omega arith)
-        | inr some ↦ (let (l, at, done) = some in ok_is_no_err _ _ (sym done.0))
-      ];
-      other_bytes = λ new h same. elim h [
-        | inl none ↦ ok_is_no_err _ _ none.0
-        | inr some ↦ (
-            let (l, at, done) = some in
-            let after : new ≡ settle (on_send 0 (λ m. write_lane m (take 3 abc)) (client_with begun)) =
-            done.1 ∙ ap (λ n. settle (on_send 0 (λ m. write_lane m (take n abc)) (client_with begun))) (sym (ap number_of done.0)) in
-            let e : 0 ≡ 3 = ap (λ (k : SendLane). k.written) (same_Some _ _ (sym same ∙ ap (λ (x : End). send_lane x 0) after)) in omega arith
-            )
-      ];
-      finish_twice = λ new h. ok_is_no_err _ _ h.0;
-      unfinished = λ new h same. false≢true (ap (λ (k : SendLane). k.finished) (same_Some _ _ (sym same ∙ ap (λ (x : End). send_lane x 0) h.1)));
-      reset_twice = λ new h. ok_is_no_err _ _ h.0;
-      other_size = λ new h same. (
-          let done = effect (send_refusal (client_with wrote) 0 reset_refusal) (client_with wrote) tt new _ h in
-          let e : 3 ≡ 0 = ap (λ (k : SendLane). size_of k.was_reset) (same_Some _ _ (sym same ∙ ap (λ (x : End). send_lane x 0) done.1)) ∙ (ap (λ (o : Option SendFault). size_of (cond (is_some o) wrote (record wrote { kept = []; was_reset = Some (record { code = 7; size = 0 }) })).was_reset) not_whole) in omega arith
-          );
-      still_kept = λ new h same. (
-          let done = effect (send_refusal (client_with wrote) 0 reset_refusal) (client_with wrote) tt new _ h in
-          let e : 3 ≡ 0 = ap (λ (k : SendLane). length k.kept) (same_Some _ _ (sym same ∙ ap (λ (x : End). send_lane x 0) done.1)) ∙ (ap (λ (o : Option SendFault). length (cond (is_some o) wrote (record wrote { kept = []; was_reset = Some (record { code = 7; size = 0 }) })).kept) not_whole) in omega arith
-          );
-    }
+sendings = grind arith
 
 writings : NoSuchWriting
 unfolding lookup update total
-writings =
-    record {
-      past_its = λ new h. (let e : 3 ≡ 2 = wrote_count 0 (prudent (client_with (record begun { limit = 2 }))) _ 3 new refl h in omega arith);
-      fewer = λ new h. (let e : 1 ≡ 2 = wrote_count 0 (prudent (client_with (record begun { limit = 2 }))) _ 1 new refl h in omega arith);
-      past_all = λ new h. (let e : 3 ≡ 2 = wrote_count 0 (record (prudent (client_with begun)) { known_data = 2 }) _ 3 new refl h in omega arith);
-      past_waiting = λ new h. (let e : 3 ≡ 2 = wrote_count 0 (record (prudent (client_with wrote)) { known_data = 5 }) _ 3 new refl h in omega arith);
-      no_memory = λ new h. elim h [
-        | inl none ↦ (let (l, at, some) = none.2 in let e : 0 < 0 = subst (λ (k : SendLane). 0 < accepted_by (record (prudent (client_with begun)) { known_data = 0 }) k 3) (sym (same_Some _ l at)) some in omega (arith, e))
-        | inr some ↦ (let (l, at, done) = some in ok_is_no_err _ _ (sym done.0))
-      ];
-      unasked = λ new h. (let e : 2 ≡ 3 = wrote_count 0 (client_with (record begun { limit = 2 })) _ 2 new refl h in omega arith);
-    }
+writings = grind arith
 
 keepings : NoSuchKeeping
 unfolding lookup update total
-keepings =
-    record {
-      past = λ new h. (let e : 3 ≡ 2 = wrote_count 0 (bounded 2 (client_with begun)) _ 3 new refl h in omega arith);
-      fewer = λ new h. (let e : 1 ≡ 2 = wrote_count 0 (bounded 2 (client_with begun)) _ 1 new refl h in omega arith);
-      past_its = λ new h. (let e : 3 ≡ 2 = wrote_count 0 (bounded 5 (client_with wrote)) _ 3 new refl h in omega arith);
-      past_other = λ new h. (let e : 3 ≡ 2 = wrote_count 4 (bounded 5 (two_with sent)) _ 3 new refl h in omega arith);
-      no_memory = λ new h. elim h [
-        | inl none ↦ (let (l, at, some) = none.2 in let e : 0 < 0 = subst (λ (k : SendLane). 0 < accepted_by (bounded 3 (two_with wrote)) k 3) (sym (same_Some _ l at)) some in omega (arith, e))
-        | inr some ↦ (let (l, at, done) = some in ok_is_no_err _ _ (sym done.0))
-      ];
-      let_go = λ new h. (let e : 0 ≡ 3 = wrote_count 4 (bounded 3 (two_with reset_half)) _ 0 new refl h in omega arith);
-    }
+keepings = grind arith
 
 -- nothing came, so a reader waits
 waits : read_answer fresh 10 ≡ reads.Wait
@@ -226,45 +122,11 @@ waits = not_chosen _ _ reads.Wait (set.contains-empty nat_cmp 0)
 
 readings : NoSuchReading
 unfolding lookup update each
-readings =
-    record {
-      none_came = λ n bytes new (l, at, told, given, after). false≢true (ap is_waiting (told ∙ ap (λ (k : RecvLane). Ok (read_answer k 10)) (sym (same_Some _ l at)) ∙ ap Ok waits));
-      no_end = λ bytes new (l, at, told, given, after). false≢true (ap is_waiting (told ∙ ap (λ (k : RecvLane). Ok (read_answer k 10)) (sym (same_Some _ l at)) ∙ ap Ok waits));
-      unopened = λ bytes new h. ok_is_no_err _ _ h.0;
-      closed = λ bytes new h. ok_is_no_err _ _ h.0;
-      read_on = λ bytes new (l, at, told, given, after). ok_is_no_err _ _ (sym told);
-      consumed_on = λ new (l, at, told, after). ok_is_no_err _ _ (sym told);
-      none_came_on = λ n bytes new (l, at, told, given, after). false≢true (ap is_waiting (told ∙ ap (λ (k : RecvLane). Ok (read_answer k 10)) (sym (same_Some _ l at)) ∙ ap Ok waits));
-      after_reset = λ bytes new (l, at, told, given, after). true≢false (ap is_waiting (told ∙ ap (λ (k : RecvLane). Ok (read_answer k 10)) (sym (same_Some _ l at))));
-      after_stop = λ n bytes new (l, at, told, given, after). false≢true (ap is_waiting (told ∙ ap (λ (k : RecvLane). Ok (read_answer k 10)) (sym (same_Some _ l at))));
-      consumed_none = λ n at_end new (l, at, told, after). false≢true (ap is_waiting (ap read_of told ∙ ap (λ (k : RecvLane). Ok (read_answer k 10)) (sym (same_Some _ l at)) ∙ ap Ok waits));
-      consumed_early = λ new (l, at, told, after). true≢false (ap ends_of told ∙ ap (λ (k : RecvLane). is_end (read_answer (after_read k 10) 0)) (sym (same_Some _ l at)) ∙ (ap (λ a. is_end (read_answer (after_answer a fresh 10) 0)) waits ∙ ap is_end (not_chosen _ _ reads.Wait (set.contains-empty nat_cmp 0))));
-      consumed_late = λ new (l, at, told, after). false≢true (ap ends_of told ∙ ap (λ (k : RecvLane). is_end (read_answer (after_read k 0) 0)) (sym (same_Some _ l at)));
-      consumed_untold = λ answer new (l, at, told, after) m is untold. true≢false (sym (ap (λ (x : End). told_at (recv_lane x 0)) after) ∙ ap told_at is ∙ untold);
-      consumed_unopened = λ answer new h. ok_is_no_err _ _ h.0;
-      second_stop = λ new h l at code. (let e : 7 ≡ 8 = same_Some 7 8 (ap (λ (k : RecvLane). k.stop_code) (same_Some _ l (ap (λ (x : End). recv_lane x 0) (sym h.1) ∙ at)) ∙ code) in omega arith);
-      stop_of_told = λ new h l at code. false≢true (ap (λ (k : RecvLane). is_some k.stop_code) (same_Some _ l (ap (λ (x : End). recv_lane x 0) (sym h.1) ∙ at)) ∙ code);
-      consumed_closed = λ answer new h. ok_is_no_err _ _ h.0;
-      stop_closed = λ new h. ok_is_no_err _ _ h.0;
-      stop_on = λ new h. ok_is_no_err _ _ h.0;
-    }
+readings = grind (arith, nat_tests, false≢true, same_Some, waits, ok_is_no_err, true≢false, not_chosen)
 
 forgetting : NoSuchForgetting
 unfolding lookup update each
-forgetting =
-    record {
-      closed = λ new h. ok_is_no_err _ _ h.0;
-      closed_on = λ new h. ok_is_no_err _ _ h.0;
-      unopened = λ new h. ok_is_no_err _ _ h.0;
-      not_stopped = λ new h l at none. none-some 7 (sym none ∙ sym (ap (λ (k : RecvLane). k.stop_code) (same_Some _ l (ap (λ (x : End). recv_lane x 0) (sym h.1) ∙ at))));
-      second_code = λ new h l at code. (let e : 7 ≡ 8 = same_Some 7 8 (ap (λ (k : RecvLane). k.stop_code) (same_Some _ l (ap (λ (x : End). recv_lane x 0) (sym h.1) ∙ at)) ∙ code) in omega arith);
-      waits = λ new h l at untold. true≢false (ap (λ (k : RecvLane). k.reader_done) (same_Some _ l (ap (λ (x : End). recv_lane x 0) (sym h.1) ∙ at)) ∙ untold);
-      too_early = λ h. false≢true h;
-      by_end = came_whole 3;
-      by_reset = refl;
-      at_once = came_whole 3;
-      stopped_alone = λ h. false≢true h;
-    }
+forgetting = grind (arith, nat_tests, ok_is_no_err, none-some, same_Some, waits, true≢false, false≢true, came_whole)
 
 settling : LimitsSettle
 unfolding frame_taken lookup update open_to each total
@@ -272,41 +134,11 @@ settling = record { by_one = refl; of_direction = refl; whole_step = refl; by_tw
 
 sets : SetsNoMore
 unfolding frame_taken lookup update open_to each total
-sets =
-    record {
-      at_once = refl;
-      narrower = refl;
-      no_step = refl;
-      counts_then = refl;
-      widest = refl;
-      more = refl;
-      of_direction = refl;
-      to_lifetime = refl;
-      fewer = refl;
-      no_more = refl;
-      closed = λ new h. ok_is_no_err _ _ h.0;
-      no_window = λ new h. ok_is_no_err _ _ h.0;
-      too_wide = λ new h. ok_is_no_err _ _ h.0;
-      too_many = λ new h. ok_is_no_err _ _ h.0;
-    }
+sets = grind arith
 
 sets_its : SetsNoMoreOfIt
 unfolding lookup update open_to each total
-sets_its =
-    record {
-      at_once = refl;
-      narrower = refl;
-      no_step = refl;
-      counts_then = refl;
-      ended = refl;
-      widest = refl;
-      later = refl;
-      unopened = λ new h. ok_is_no_err _ _ h.0;
-      not_its = λ new h. cc;
-      closed = λ new h. ok_is_no_err _ _ h.0;
-      no_window = λ new h. ok_is_no_err _ _ h.0;
-      too_wide = λ new h. ok_is_no_err _ _ h.0;
-    }
+sets_its = grind arith
 
 pub not_owned : NotOwned
 not_owned = record {
@@ -380,10 +212,7 @@ unfolding total
 of_one l n is = omega (arith, is)
 
 runs : RunsAreNoted
-runs = record { none = of_one _ _ (omega (arith, starts_below_end set.empty, end_of-empty)); row = of_one _ _ one_run; gap = of_one _ _ two_runs; after_stop = of_one _ _ two_runs; forgotten = of_one _ _ two_runs; after_reset = of_one _ _ refl; told = of_one _ _ ended; forgotten_end = of_one _ _ ended }
-  where
-    ended : cond (is_whole all_came || false) 0 (set.len (run_starts all_came.arrived.received)) ≡ 0
-    ended = ap (λ b. cond (b || false) 0 (set.len (run_starts all_came.arrived.received))) (came_whole 3)
+runs = grind (arith, nat_tests, of_one, starts_below_end, end_of-empty, row, one_run, two_runs, came_whole)
 
 bytes : BytesAreTaken
 unfolding lookup total
@@ -399,11 +228,7 @@ code_of answer = 0
 
 other_byte : IsFront one_stored (98 ∷ []) → ⊥
 unfolding front
-other_byte h =
-    let one = get-insert_nat map.empty 0 97 0 in
-    let is = h.are ∙ ap (λ a. bytes_of a one_stored 1) h.answer ∙ ap (λ (o : Option ℕ). front_from o []) one in
-    let e : 98 ≡ 97 = ap (λ (xs : List ℕ). slice_index xs 0) is in
-    omega (arith, e)
+other_byte h = grind (arith, nat_tests, get-insert_nat, slice_index)
 
 in_part : IsFront two_stored (97 ∷ []) → ⊥
 in_part h = false≢true (sym h.whole ∙ contains-numbers 0 2 1)
@@ -479,16 +304,13 @@ sendable =
     }
   where
     nothing : (l : SendLane) → l.written ≡ 0 → l.finished ≡ false → (e : End) → HasForPacket e 0 l → ⊥
-    nothing l none unfinished e (inl (q, due, below)) = omega (arith, due.written, none)
-    nothing l none unfinished e (inr (due, whole)) = both_ways l.finished unfinished due.finished
+    nothing l none unfinished e h = grind arith
 
     held : (e : End) → HasForPacket e 0 (record wrote { limit = 0 }) → ⊥
-    held e (inl (q, due, below)) = omega (arith, below)
-    held e (inr (due, whole)) = false≢true due.finished
+    held e h = grind arith
 
     gone : (e : End) → HasForPacket e 0 reset_half → ⊥
-    gone e (inl (q, due, below)) = none-some _ (sym due.no_reset)
-    gone e (inr (due, whole)) = none-some _ (sym due.no_reset)
+    gone e h = grind arith
 
 writable : NotWritable
 writable =
@@ -516,25 +338,7 @@ no_and b is = both_ways _ (and-false b) is
 
 news : NoNews
 unfolding lookup
-news =
-    record {
-      heard_of = λ h. (let is = h.next in omega (arith, is));
-      own = λ h. true≢false h.theirs;
-      unopened = λ h. (let lt = h.opened in omega (arith, lt));
-      read_later = λ h. true≢false h.1;
-      nothing_came = λ h. nothing_readable h.0;
-      unasked = λ h. false≢true h.1;
-      full = λ h. (let lt : 0 < 0 = h.0 in omega (arith, lt));
-      not_stopped = λ h. none-some 7 h.0;
-      other_code = λ h. (let is : 7 ≡ 8 = same_Some 7 8 h.0 in omega (arith, is));
-      unacked = λ h. no_and (unacked_from finished == finished.written) (only_is HasFinished finished h.0).1;
-      was_reset = λ h. true≢false (only_is HasFinished (record reset_half { reset_acked = true }) h.0).0;
-      not_reset = λ h. false≢true (only_is WasResetAcked finished h.0);
-      not_wanted = λ h. false≢true h.1;
-      closed = λ h. none-some _ (sym h.0.0);
-      unsaid = λ h. false≢true h.1;
-      said_before = λ h. none-some _ (sym h.0);
-    }
+news = grind (arith, nat_tests, true≢false, nothing_readable, false≢true, none-some, same_Some, no_and, only_is)
 
 opens_first : IsNews (server_with all_came) heard_nothing (Opened 0)
 opens_first = record { theirs = refl; opened = omega arith; next = refl }
@@ -552,50 +356,18 @@ is_ok (Err refused) = false
 
 noted_of_heard : NotNoted
 unfolding lookup update open_to is_ok
-noted_of_heard =
-    record {
-      unkept = λ h. false≢true (ap (λ t. is_told t 0) h.0);
-      another = λ h. false≢true (ap (λ t. is_told t 0) h.0);
-      two_opened = λ h. (let is : 2 ≡ 1 = ap (λ (x : Hearing). x.opened_bidi) h in omega (arith, is));
-      short = λ h. false≢true (ap (λ t. is_told t 0) (h.short refl).0);
-      whole = λ refused h. false≢true (ap is_ok (h.whole refl).0);
-      marked = λ refused h. none-some false (sym (h.short refl).1);
-      place_lost = λ h. false≢true (ap (λ t. is_some (lookup t 4)) h.0);
-      place_dropped = λ h. false≢true (ap (λ t. is_some (lookup t 0)) (h.dry nothing_readable).0);
-      place_more = λ h. true≢false (ap (λ t. is_some (lookup t 4)) h.0);
-      place_taken = λ h. true≢false (ap (λ t. is_some (lookup t 0)) (h.dry nothing_readable).0);
-      read_empty = λ h. true≢false (ap (λ t. is_told t 0) (h.dry nothing_readable).0);
-      told_again = λ h. true≢false (ap (λ (x : Hearing). x.blocked.conn) h);
-      risen = λ h. true≢false (ap (λ (x : Hearing). x.blocked.conn) h.1);
-      present = λ h. false≢true (ap (λ (x : Hearing). x.blocked.conn) h.1);
-      all_known = λ h. true≢false (ap (λ (x : Hearing). is_told x.blocked.streams 0) h.1);
-    }
+noted_of_heard = grind (arith, nat_tests, false≢true, is_ok, none-some, nothing_readable, true≢false)
 
 -- what comes behind a stream that opened comes behind any that did
 behind_opened : (h : Hearing) (news : News) → TakesMemory news h → ComesBefore (Opened 0) news
-behind_opened h (Opened n) takes = absurd takes
-behind_opened h (Readable n) takes = inl (omega arith)
-behind_opened h (Writable n) takes = absurd takes
-behind_opened h (Stopped n code) takes = inl (omega arith)
-behind_opened h (Finished n) takes = inl (omega arith)
-behind_opened h (ResetAcked n) takes = inl (omega arith)
-behind_opened h (Ended n) takes = inl (omega arith)
-behind_opened h news takes = absurd takes
+behind_opened h news takes = grind arith
 
 abbrev marks_one : Hearing
 marks_one = record heard_one { readable = only false }
 
 behind_readable : (news : News) → TakesMemory news marks_one → ComesBefore (Readable 0) news
 unfolding lookup
-behind_readable (Opened n) takes = absurd takes
-behind_readable (Readable zero) takes = absurd (none-some false (sym takes))
-behind_readable (Readable (suc n)) takes = inr (refl, omega arith)
-behind_readable (Writable n) takes = absurd takes
-behind_readable (Stopped n code) takes = inl (omega arith)
-behind_readable (Finished n) takes = inl (omega arith)
-behind_readable (ResetAcked n) takes = inl (omega arith)
-behind_readable (Ended n) takes = inl (omega arith)
-behind_readable news takes = absurd takes
+behind_readable news takes = grind arith
 
 -- a piece of news before the one that is first
 too_early : (e : End) (h : Hearing) (news other : News) → IsFirstNews e h (Some news) → IsNews e h other → ComesBefore other news → ⊥

@@ -1,17 +1,17 @@
 -- What the definitions exclude of payloads, frames and tokens that come, and of memory.
-use Rattle.std.proofs.Common.{◌≡◌, ℕ, zero, suc, ◌+◌, ◌<◌, List, [], ◌∷◌, ◌++◌, take, length, Bool, true, false, cond, not, ◌&&◌, ◌||◌, nat_lt, Option, Some, None, is_some, refl, sym, ap, ◌∙◌, subst, arith, inl, inr, ◌⊎◌, slice_get}
-use Rattle.std.specs.Prelude.{Result, Ok, Err, max, MatchBool, flat_map}
+use Rattle.std.proofs.lemmas.Bool.Decides.{nat_tests}
+use Rattle.std.proofs.Common.{◌≡◌, ℕ, zero, suc, ◌+◌, ◌<◌, List, [], ◌∷◌, ◌++◌, take, Bool, true, false, cond, not, ◌&&◌, ◌||◌, nat_lt, Option, Some, None, is_some, refl, sym, ap, ◌∙◌, subst, arith, inl, inr, ◌⊎◌, slice_get}
+use Rattle.std.specs.Prelude.{Result, Ok, Err, MatchBool, flat_map}
 use Rattle.std.specs.FinMap as fmap
 use Rattle.std.specs.FinSet as set
 use Rattle.std.specs.Ordering.{nat_cmp, eq_by_cmp}
 use Rattle.std.specs.Cmp.{nat_cmp_total, unsigned_tied}
 use Rattle.std.proofs.lemmas.Option.{same_Some, none-some}
-use Rattle.std.proofs.lemmas.Bool.{true≢false, both_ways, and_right, or_cases, eqb-true, eq-eqb, cases_lt, false≢true, false_from_ne_true}
+use Rattle.std.proofs.lemmas.Bool.{true≢false, both_ways, and_right, or_cases, eqb-true, false≢true, false_from_ne_true}
 use Rattle.qs_ranges.specs.Numbers.{NumberSet, numbers, is_within, has_predecessor, run_starts, contains-without_range, same_numbers, contains-numbers, contains-with_range}
 use Rattle.qs_ranges.proofs.Sets.{end_of-empty, end_of-with_range}
 use Rattle.qs_wire.specs.Layout.{PlacedValue, FrameValue, max_data}
 use Rattle.qs_wire.specs.declared.fault.WireFault.{WireFault}
-use Rattle.qs_recv.specs.Assembled.{forget}
 use Rattle.qs_recv.specs.declared.half.RecvState.TheVariants.{DataRecvd, SizeKnown}
 use Rattle.qs_send.specs.Lane.{new_lane as new_send_lane, state as send_state, SendLane}
 use Rattle.qs_send.specs.declared.parts.SendState.TheVariants as sends
@@ -24,14 +24,14 @@ use Rattle.qs_calls.specs.declared.closing.Received.TheVariants.{Done, Duplicate
 use Rattle.qs_wire.specs.Reading.{reading_of}
 use Rattle.qs_machine.specs.Tables.{lookup, update, open_to, total}
 use Rattle.qs_machine.specs.Ends.{End}
-use Rattle.qs_machine.specs.Seen.{Seen, Stream, Close, seen, asks_ack}
+use Rattle.qs_machine.specs.Seen.{Seen, Stream, seen, asks_ack}
 use Rattle.qs_machine.specs.Credit.{settle}
 use Rattle.qs_machine.specs.Verdicts.{verdict}
 use Rattle.qs_machine.specs.FrameStep.{frame_taken, frames_taken, acks, named, pieces_of, is_named}
 use Rattle.qs_machine.specs.Recording.{has_too_many, lowest_end}
 use Rattle.qs_machine.specs.Receiving.{Takes, Stops, TakesPayload}
 use Rattle.qs_machine.specs.Examples.{letters}
-use Rattle.qs_machine.specs.SmallEnds.{chunk, all_came, only, second_acked}
+use Rattle.qs_machine.specs.SmallEnds.{chunk, only, second_acked}
 use Rattle.qs_machine.specs.ExclusionsReceiving.{CodesAreThese, NoSuchStop, NothingTookEffect, NoSuchEnd, NoSuchReceipt, AcksAskNothing, RunsAreFew, RepeatsNeedSoundness, AbortsCount, ReportIsOfHighest, NotReceived, ten, flying, evens, closing}
 use Rattle.qs_machine.proofs.EveryCall.{not_chosen, by_test}
 use Rattle.qs_machine.proofs.Examples.{none_differs, five}
@@ -48,13 +48,11 @@ use Rattle.qs_calls.specs.declared.token.TakeFault.{TakeFault}
 use Rattle.qs_calls.specs.declared.token.TakeFault.TheVariants as faults
 use Rattle.qs_calls.specs.declared.token.TokenFault.{TokenFault}
 use Rattle.qs_calls.specs.declared.token.TokenFault.TheVariants as tokens
-use Rattle.qs_machine.specs.Owner.{Certain}
-use Rattle.qs_machine.specs.Making.{LoseStep, lose_refusal}
+use Rattle.qs_machine.specs.Making.{LoseStep}
 use Rattle.qs_machine.specs.Alone.{MayTake, TakesOne, TakesEach, HasFault, after_one, lost_answer, LosesEach}
 use Rattle.qs_machine.specs.ExclusionsMaking.{two_flying}
 use Rattle.qs_machine.specs.ExclusionsAlone.{NoSuchTake, NoSuchFrameAnswer, NoSuchFramesAnswer, NoSuchToken, NotAlone, past_all, eleven_bytes}
 use Rattle.qs_machine.specs.ExclusionsMemory.{NoFrameRunsOut, NoPieceRunsOut, NoOtherEnd, NotRefused}
-use Rattle.qs_machine.specs.Memory.{StopsAt}
 
 -- How a payload isn't taken, and which answers aren't given.
 
@@ -67,19 +65,7 @@ past_limit = codes.flow_control
 
 stops : NoSuchStop
 unfolding verdict
-stops =
-    record {
-      past_fault = λ goes. none-some _ (sym goes ∙ past_limit);
-      past_close = λ goes. goes;
-      no_fault = λ new h. none-some _ h.0;
-      other_code = λ new h. (let e : 3 ≡ 6 = same_Some 3 6 (sym past_limit ∙ h.0) in omega arith);
-      other_place = λ new h. (let e : 0 ≡ 5 = ap (λ (c : Closing). c.place) h.1 in omega arith);
-      still_open = λ h. none-some _ (ap (λ (e : End). e.closed) h.2);
-      no_memory = λ new h. none-some _ (sym h.0 ∙ past_limit);
-      done = λ new h. h;
-      close_done = λ new h. h;
-      close_code = λ new h. (let e : 8 ≡ 7 = h.0 in omega arith);
-    }
+stops = grind (arith, nat_tests, none-some, past_limit, same_Some)
 
 is_number : (q k : ℕ) → eq_by_cmp nat_cmp q k ≡ true → q ≡ k
 is_number q k is = eqb-true q k (sym (unsigned_tied q k) ∙ is)
@@ -104,25 +90,19 @@ none_named i = flat_map (pieces_of false flying.outstanding) (filter_nothing fly
     none_late j there = absurd (both_ways _ (ap is_some (fmap.get-empty nat_cmp j)) there)
 
 take_nothing : {X : Type 0} (m : ℕ) → ◌≡◌ {A = List X} (take m []) []
-take_nothing zero = refl
-take_nothing (suc m) = refl
+take_nothing m = grind arith
 
 gone : fmap.get (without_first flying.outstanding 0 (fmap.get flying.outstanding 0)) 0 ≡ None
 gone = ap (λ o. fmap.get (without_first flying.outstanding 0 o) 0) (fmap.get-insert nat_cmp_total fmap.empty 0 three_bytes 0) ∙ fmap.get-remove nat_cmp_total flying.outstanding 0 0
 
 out_of_memory : NothingTookEffect
 unfolding frame_taken lookup update open_to acks
-out_of_memory =
-    record {
-      no_byte = λ same. (let e : 1 ≡ 0 = ap (λ (e : End). length e.recvs.client_bidi) same.0 in omega arith);
-      unnamed = λ (m, after, left). none-some three_bytes (sym gone ∙ ap (λ (e : End). fmap.get e.outstanding 0) (after ∙ ap (λ ps. acks (take m ps) flying) none_named ∙ ap (λ ps. acks ps flying) (take_nothing m)) ∙ fmap.get-insert nat_cmp_total fmap.empty 0 three_bytes 0);
-    }
+out_of_memory = grind (arith, nat_tests, none-some, gone, none_named, take_nothing)
 
 -- The processing of frames never ends so
 
 no_duplicate_at : (p : PlacedValue) (f : Seen) (e new : End) → Stops p f e (Ok Duplicate) new → ⊥
-no_duplicate_at p (Close code) e new h = h
-no_duplicate_at p f e new h = h
+no_duplicate_at p f e new h = grind arith
 
 no_duplicate : (number : ℕ) (fault : Option WireFault) (asks : Bool) (e : End) (ps : List PlacedValue) (new : End) → Takes number fault asks e ps (Ok Duplicate) new → ⊥
 no_duplicate number None asks e [] new h = h
@@ -134,8 +114,7 @@ no_duplicate number fault asks e (p ∷ ps) new h =
     ]
 
 not_below_at : (p : PlacedValue) (f : Seen) (e new : End) → Stops p f e (Ok BelowFloor) new → ⊥
-not_below_at p (Close code) e new h = h
-not_below_at p f e new h = h
+not_below_at p f e new h = grind arith
 
 not_below : (number : ℕ) (fault : Option WireFault) (asks : Bool) (e : End) (ps : List PlacedValue) (new : End) → Takes number fault asks e ps (Ok BelowFloor) new → ⊥
 not_below number None asks e [] new h = h
@@ -201,9 +180,7 @@ evens_at zero j lt = absurd (omega (arith, lt))
 evens_at (suc n) j lt = set.contains-insert nat_cmp_total (evens n) (n + n) (j + j) ∙ by_test (λ less. evens_at n j less) (eq_by_cmp nat_cmp (j + j) (n + n)) refl
   where
     by_test : (j < n → set.contains (evens n) (j + j) ≡ true) → (b : Bool) → eq_by_cmp nat_cmp (j + j) (n + n) ≡ b → (b || set.contains (evens n) (j + j)) ≡ true
-    by_test before true is = refl
-    by_test before false is =
-        before (elim (cases_lt j n) [ inl less ↦ less | inr ge ↦ absurd (both_ways _ is (unsigned_tied (j + j) (n + n) ∙ eq-eqb (j + j) (n + n) (omega (arith, ge, lt)))) ])
+    by_test before b is = grind arith
 
 not_at : (n q : ℕ) → ((j : ℕ) → j < n → q ≡ j + j → ⊥) → set.contains (evens n) q ≡ false
 not_at n q none = false_from_ne_true _ (λ is. let (j, lt, e) = evens_have n q is in none j lt e)
@@ -273,12 +250,7 @@ ends =
     }
 
 aborts : AbortsCount
-aborts =
-    record {
-      stop_pays = end_of-with_range set.empty 0 3 (omega arith) ∙ ap (λ k. max k 3) end_of-empty ∙ omega arith;
-      first_stop = refl;
-      reset_after_all = ap (λ b. cond b all_came (record all_came { arrived = forget all_came.arrived; final_size = Some 3; reset_code = Some 7 })) whole;
-    }
+aborts = grind (arith, nat_tests, end_of-with_range, end_of-empty, whole)
 
 report : ReportIsOfHighest
 unfolding frame_taken lookup update open_to
@@ -293,11 +265,7 @@ report i =
 
 repeats : RepeatsNeedSoundness
 unfolding verdict frame_taken frames_taken lookup update open_to total
-repeats =
-    record {
-      once = (rw end_of-empty (rw (none_differs 0 (letters 5)) (rw end_of-empty refl)), (rw end_of-empty (rw (none_differs 0 (letters 5)) (rw end_of-empty refl)), tt));
-      again = rw end_of-empty (rw end_of-empty (rw five refl));
-    }
+repeats = grind (arith, nat_tests, end_of-empty, none_differs, five)
 
 pub not_received : NotReceived
 not_received = record { codes = codes; stops = stops; out_of_memory = out_of_memory; ends = ends; receipts = receipts; asks = asks; runs = runs; aborts = aborts; report = report; repeats = repeats }
@@ -310,39 +278,18 @@ unspelled fits = omega (arith, fits)
 
 -- the code of a fault
 of_eleven : (code : ℕ) → HasFault ten eleven_bytes code → code ≡ 3
-of_eleven code (inl (none, is)) = absurd (none (omega arith, omega arith))
-of_eleven code (inr (fits, is)) = same_Some code 3 (sym is ∙ past_limit)
+of_eleven code h = grind (arith, nat_tests, same_Some, past_limit)
 
 of_past_all : (code : ℕ) → HasFault ten past_all code → code ≡ 7
-of_past_all code (inl (none, is)) = is
-of_past_all code (inr (fits, is)) = absurd (unspelled fits)
+of_past_all code h = grind arith
 
 of_max_data : (code : ℕ) → HasFault ten (max_data 5000) code → ⊥
 unfolding verdict
-of_max_data code (inl (none, is)) = none (omega arith)
-of_max_data code (inr (fits, is)) = none-some code is
+of_max_data code h = grind arith
 
 take_of_frames : NoSuchTake
 unfolding verdict frame_taken
-take_of_frames =
-    record {
-      past_fault = λ new h. none-some 3 (sym h.0.1 ∙ past_limit);
-      no_text = λ new h. unspelled h.0.0;
-      not_encoding = λ new h. (let e = of_past_all 10 h.0 in omega (arith, e));
-      not_ours = λ new h. h;
-      no_effect = λ new h same. (let e : 5000 ≡ 4096 = sym (ap (λ (e : End). e.known_data) h.1) ∙ same in omega (arith, e));
-      raised = λ new h. (let e : 5000 ≡ 4096 = ap (λ (e : End). e.known_data) (sym h.1 ∙ h.2) in omega (arith, e));
-      not_raised = λ new h. h.2 h.1;
-      no_fault = λ new h. of_max_data 3 h.0;
-      other_code = λ new h. (let e = of_eleven 6 h.0 in omega (arith, e));
-      other_type = λ new h. (let e : 8 ≡ 10 = ap (λ (c : Closing). c.frame_type) h.1 in omega (arith, e));
-      other_place = λ new h. (let e : 5 ≡ 0 = ap (λ (c : Closing). c.place) h.1 in omega (arith, e));
-      still_open = λ h. none-some _ (ap (λ (e : End). e.closed) h.2);
-      faulty_memory = λ new h. none-some 3 (sym h.0.1 ∙ past_limit);
-      none_asked = λ new h. h.1.1;
-      changed = λ new h is. (let e : 4096 ≡ 4097 = sym (ap (λ (e : End). e.known_data) h.1.0) ∙ is in omega (arith, e));
-      peer_open = λ new h. h;
-    }
+take_of_frames = grind (arith, nat_tests, none-some, past_limit, unspelled, of_past_all, of_max_data, of_eleven)
 
 abbrev fault_in : Result Taken TakeFault → Option TakeFault
 fault_in (Ok taken) = None
@@ -358,32 +305,19 @@ is_took (Ok Took) = true
 is_took r = false
 
 frame : NoSuchFrameAnswer
-frame =
-    record {
-      closed = λ new step. false≢true (sym (ap is_took step.0));
-      other_closing = λ new step. (let e : 6 ≡ 3 = ap closing_in step.0 in omega (arith, e));
-      other_peer = λ new step. (let e : 8 ≡ 7 = ap closing_in step.0 in omega (arith, e));
-      ack_taken = λ new step. false≢true (sym (ap is_took step.0));
-      ack_closes = λ closing new step. none-some _ (sym (ap fault_in step.0));
-      close_closes = λ answer new step is. none-some _ (sym (ap (λ (e : End). e.closed) step.1) ∙ is);
-    }
+frame = grind arith
 
 -- what is answered of a frame that was taken
 was_taken : (e : End) (f : FrameValue) (one : Taken) (new : End) → TakesOne e f (Ok one) new → MayTake e f × (new ≡ frame_taken (seen f) e)
-was_taken e f NotOurs new h = absurd h
-was_taken e f _ new h = (h.0, h.1)
+was_taken e f one new h = grind arith
 
 -- a limit that no text has takes no effect behind another frame
 behind : (mid : End) (one : Taken) (later : Result Taken TakeFault) (new : End) → TakesEach (past_all ∷ []) mid later new → ◌≡◌ {A = Result Taken TakeFault} (Ok Took) (after_one one later) → ⊥
-behind mid one later new (inl (next, kind, rest, last, more, is)) took = unspelled (was_taken mid past_all kind next last).0.0
-behind mid one later new (inr (fault, last, is)) took = none-some fault (ap fault_in (took ∙ ap (after_one one) is))
+behind mid one later new h took = grind arith
 
 -- and the frame before it has its effect
 stays : (mid : End) (later : Result Taken TakeFault) (new : End) → TakesEach (past_all ∷ []) mid later new → new.known_data ≡ mid.known_data
-stays mid later new (inl (next, kind, rest, one, more, is)) = absurd (unspelled (was_taken mid past_all kind next one).0.0)
-stays mid later new (inr (faults.Closing closing, one, is)) = ap (λ (e : End). e.known_data) one.2
-stays mid later new (inr (faults.NoMemory, one, is)) = absurd (unspelled one.0.0)
-stays mid later new (inr (faults.PeerClosed code, one, is)) = absurd one
+stays mid later new h = grind arith
 
 no_first : (fault : TakeFault) (new : End) → TakesOne ten (max_data 5000) (Err fault) new → ⊥
 no_first (faults.Closing closing) new one = of_max_data closing.code one.0
@@ -396,10 +330,7 @@ is_other r = false
 
 -- a frame that was taken is of these kinds, whatever comes behind it
 after_took : (e : End) (f : FrameValue) (one : Taken) (mid : End) (later : Result Taken TakeFault) → TakesOne e f (Ok one) mid → ◌≡◌ {A = Result Taken TakeFault} (Ok NotOurs) (after_one one later) → ⊥
-after_took e f one mid (Err fault) h is = none-some fault (ap fault_in is)
-after_took e f NotOurs mid (Ok later) h is = absurd h
-after_took e f Unchanged mid (Ok Took) h is = false≢true (sym (ap is_other is))
-after_took e f one mid later h is = false≢true (sym (ap is_other is))
+after_took e f one mid later h is = grind arith
 
 abbrev is_same : Result Taken TakeFault → Bool
 is_same (Ok Unchanged) = true
@@ -408,15 +339,7 @@ is_same r = false
 -- where a limit rises behind other frames, something changed
 changed_last : (mid : End) (one : Taken) (later : Result Taken TakeFault) (new : End) → mid.known_data ≡ 4096 → TakesEach (max_data 5000 ∷ []) mid later new → ◌≡◌ {A = Result Taken TakeFault} (Ok Unchanged) (after_one one later) → ⊥
 unfolding frame_taken
-changed_last mid one later new at (inl (next, Took, rest, last, more, is)) same = last_took one later is more.0 same
-  where
-    last_took : (first : Taken) (r : Result Taken TakeFault) → r ≡ after_one Took rest → rest ≡ Ok NotOurs → ◌≡◌ {A = Result Taken TakeFault} (Ok Unchanged) (after_one first r) → ⊥
-    last_took Took r e none s = false≢true (sym (ap is_same (s ∙ ap (after_one Took) (e ∙ ap (after_one Took) none))))
-    last_took Unchanged r e none s = false≢true (sym (ap is_same (s ∙ ap (after_one Unchanged) (e ∙ ap (after_one Took) none))))
-    last_took NotOurs r e none s = false≢true (sym (ap is_same (s ∙ ap (after_one NotOurs) (e ∙ ap (after_one Took) none))))
-changed_last mid one later new at (inl (next, Unchanged, rest, last, more, is)) same = (let e : max mid.known_data 5000 ≡ mid.known_data = ap (λ (e : End). e.known_data) (sym last.1 ∙ last.2) in omega (arith, e, at))
-changed_last mid one later new at (inl (next, NotOurs, rest, last, more, is)) same = absurd last
-changed_last mid one later new at (inr (fault, last, is)) same = none-some fault (ap fault_in (same ∙ ap (after_one one) is))
+changed_last mid one later new at h same = grind arith
 
 -- a limit that rises before other frames changed something
 changed_first : (mid : End) (one : Taken) (later : Result Taken TakeFault) → TakesOne ten (max_data 5000) (Ok one) mid → ◌≡◌ {A = Result Taken TakeFault} (Ok Unchanged) (after_one one later) → ⊥
@@ -433,25 +356,7 @@ changed_none mid NotOurs later h none is = absurd h
 
 frames : NoSuchFramesAnswer
 unfolding frame_taken
-frames =
-    record {
-      past_fault = λ new h. elim h [ inl (mid, kind, later, one, more, is) ↦ unspelled (was_taken ten past_all kind mid one).0.0 | inr (fault, one, is) ↦ false≢true (sym (ap is_took is)) ];
-      left_out = λ new h. elim h [ inl (mid, kind, later, one, more, is) ↦ behind mid kind later new more is | inr (fault, one, is) ↦ false≢true (sym (ap is_took is)) ];
-      before_fault = λ fault new h same. elim h [
-        | inl (mid, kind, later, one, more, is) ↦ (let e : 5000 ≡ 4096 = sym (stays mid later new more ∙ ap (λ (e : End). e.known_data) (was_taken ten (max_data 5000) kind mid one).1) ∙ same in omega (arith, e))
-        | inr (other, one, is) ↦ no_first other new one
-      ];
-      one_ours = λ new h. elim h [ inl (mid, kind, later, one, more, is) ↦ after_took ten (max_data 5000) kind mid later one is | inr (fault, one, is) ↦ none-some fault (ap fault_in is) ];
-      first_changed = λ new h. elim h [ inl (mid, kind, later, one, more, is) ↦ changed_first mid kind later one is | inr (fault, one, is) ↦ false≢true (sym (ap is_same is)) ];
-      last_changed = λ new h. elim h [
-        | inl (mid, kind, later, one, more, is) ↦ changed_last mid kind later new (ap (λ (e : End). e.known_data) (was_taken ten (max_data 4000) kind mid one).1) more is
-        | inr (fault, one, is) ↦ false≢true (sym (ap is_same is))
-      ];
-      none_changed = λ new h. elim h [ inl (mid, kind, later, one, more, is) ↦ changed_none mid kind later one more.0 is | inr (fault, one, is) ↦ false≢true (sym (ap is_took is)) ];
-      unchanged_is_ours = λ new h. elim h [ inl (mid, kind, later, one, more, is) ↦ after_took ten (max_data 4000) kind mid later one is | inr (fault, one, is) ↦ none-some fault (ap fault_in is) ];
-      none_ours = λ new h. false≢true (sym (ap is_took h.0));
-      closed = λ new step. false≢true (sym (ap is_took step.0));
-    }
+frames = grind (arith, nat_tests, unspelled, was_taken, false≢true, behind, stays, no_first, after_took, none-some, changed_first, changed_last, changed_none)
 
 -- Tokens
 
@@ -469,9 +374,7 @@ is_closing answer = false
 
 -- no declared loss is answered so
 not_given : (declared : Result (Unit {0}) LostFault) → ◌≡◌ {A = Result (Unit {0}) TokenFault} (Err tokens.NotGiven) (lost_answer declared) → ⊥
-not_given (Err losing.NoMemory) is = false≢true (ap is_memory is)
-not_given (Err losing.Closed) is = false≢true (ap is_closing is)
-not_given _ is = none-some _ (sym (ap noted_fault is))
+not_given declared is = grind arith
 
 lost_part : (declared : Result (Unit {0}) LostFault) (new : End) → LoseStep two_flying 0 declared new → ◌≡◌ {A = Result (Unit {0}) TokenFault} (Ok tt) (lost_answer declared) → IsCarried new.outstanding (Data 0 (chunk 0 3 false)) → ⊥
 lost_part (Ok done) new lose is carried = not_made.losses.in_part new lose carried
@@ -485,19 +388,13 @@ lost_whole _ new lose is none = none-some _ (sym (ap noted_fault is))
 
 -- a packet that isn't outstanding changes nothing
 none_there : (e : End) (k : ℕ) (declared : Result (Unit {0}) LostFault) (new : End) → fmap.get e.outstanding k ≡ None → LoseStep e k declared new → new ≡ e
-none_there e k declared new none step = go (lose_refusal e k) _ (λ (ps, is, gone). absurd (none-some ps (sym none ∙ is))) step
-  where
-    go : (o : Option LostFault) (E : Type 0) → (E → new ≡ e) → Certain o e declared new E → new ≡ e
-    go (Some fault) E by h = h.1
-    go None E by h = by h
+none_there e k declared new none step = grind arith
 
 second_is_none : fmap.get two_flying.outstanding 1 ≡ None
 second_is_none = fmap.get-insert nat_cmp_total fmap.empty 0 _ 1 ∙ fmap.get-empty nat_cmp 1
 
 part_of_one : (e new : End) → e ≡ two_flying → LosesEach 1 0 e (Ok tt) new → IsCarried new.outstanding (Data 0 (chunk 0 3 false)) → ⊥
-part_of_one e new same (inl (mid, (declared, lose, is), (ok, after))) carried =
-    lost_part declared mid (subst (λ x. LoseStep x 0 declared mid) same lose) is (subst (λ (x : End). IsCarried x.outstanding (Data 0 (chunk 0 3 false))) after carried)
-part_of_one e new same (inr (fault, one, is)) carried = none-some _ (ap noted_fault is)
+part_of_one e new same h carried = grind (arith, nat_tests, lost_part, none-some)
 
 told : NoSuchToken
 told =
@@ -533,31 +430,11 @@ last_came = contains-with_range set.empty 0 3 2 ∙ ap (λ b. b || true) (set.co
 
 -- both halves are open
 both_open : {X Y U : Type 0} (x : X) (y : Y) → (◌≡◌ {A = Option X} (Some x) None ⊎ (U × ◌≡◌ {A = Option Y} (Some y) None)) → ⊥
-both_open x y (inl none) = none-some x (sym none)
-both_open x y (inr half) = none-some y (sym half.1)
+both_open x y h = grind arith
 
 frames_of_memory : NoFrameRunsOut
 unfolding lookup
-frames_of_memory =
-    record {
-      plain = λ h. h;
-      plain_stops = λ h. h.1;
-      close = λ h. h;
-      names_none = λ new (m, after, stops). subst (λ ps. StopsAt new.sends new.acked (slice_get ps m)) none_named stops;
-      max_data = λ h. h;
-      max_streams = λ h. h;
-      data_blocked = λ h. h;
-      streams_blocked = λ h. h;
-      max_stream_data = λ h. both_open _ _ h.1;
-      reset = λ h. both_open _ _ h.1;
-      stop_sending = λ h. both_open _ _ h.1;
-      stream_blocked = λ h. both_open _ _ h.1;
-      one_half = λ h. elim h.1 [ inl none ↦ none-some _ (sym none) | inr sending ↦ false≢true (sym sending.0) ];
-      own = λ h. false≢true (sym h.0);
-      repeated = λ h. elim h [ inl closed ↦ both_open _ _ closed.1 | inr news ↦ both_ways _ news.some (came_whole 3) ];
-      after_reset = λ h. elim h [ inl closed ↦ both_open _ _ closed.1 | inr news ↦ none-some 7 (sym news.no_reset) ];
-      after_stop = λ h. elim h [ inl closed ↦ both_open _ _ closed.1 | inr news ↦ both_ways _ (news.apart refl 2 (omega arith) (omega arith)) last_came ];
-    }
+frames_of_memory = grind (arith, nat_tests, stops, slice_get, none_named, both_open, none-some, false≢true, both_ways, came_whole, last_came)
 
 not_found : (l : SendLane) → lookup (only second_acked) 4 ≡ Some l → ⊥
 unfolding lookup

@@ -1,20 +1,20 @@
 -- The lanes of halves in tables: what a change of a half is to its lane.
-use Rattle.std.proofs.Common.{◌≡◌, ℕ, suc, ◌+◌, ◌-◌, ◌*◌, ◌/◌, ◌%◌, List, [], ◌∷◌, ◌++◌, length, map, take, Option, Some, None, is_some, option_map, refl, sym, ap, ◌∙◌, true}
-use Rattle.std.specs.List.{slice_get, slice_set, range_with_len}
+use Rattle.std.proofs.lemmas.Bool.Decides.{nat_tests}
+use Rattle.std.proofs.Common.{arith}
+use Rattle.std.proofs.Common.{◌≡◌, ℕ, suc, ◌/◌, ◌%◌, List, [], ◌∷◌, ◌++◌, length, map, take, Option, Some, None, is_some, option_map, refl, sym, ap, ◌∙◌, true}
+use Rattle.std.specs.List.{slice_get, slice_set}
 use Rattle.qs_send.specs.Lane.{SendLane, Sending}
-use Rattle.qs_machine.specs.Tables.{Tables, table, with_table, lookup, update, updated, open_to, widened}
+use Rattle.qs_machine.specs.Tables.{Tables, table, with_table, lookup, update, updated, open_to}
 use Rattle.qs_machine.specs.Outgoing.{lanes_of}
 
 abbrev lane : Sending → SendLane
 lane s = s.lane
 
 table_lanes : (t : Tables Sending) (k : ℕ) → table (lanes_of t) k ≡ map lane (table t k)
-table_lanes t (suc (suc (suc k))) = refl
-table_lanes t _ = refl
+table_lanes t k = grind arith
 
 with_lanes : (t : Tables Sending) (k : ℕ) (xs : List Sending) → lanes_of (with_table t k xs) ≡ with_table (lanes_of t) k (map lane xs)
-with_lanes t (suc (suc (suc k))) xs = refl
-with_lanes t _ xs = refl
+with_lanes t k xs = grind arith
 
 get_lanes : (xs : List Sending) (i : ℕ) → slice_get (map lane xs) i ≡ option_map lane (slice_get xs i)
 get_lanes (x ∷ xs) (suc i) = get_lanes xs i
@@ -61,22 +61,11 @@ update_lanes t n y = with_lanes t (n % 4) _ ∙ ap (with_table (lanes_of t) (n %
 
 pub lanes_updated : (t : Tables Sending) (n : ℕ) (f : Sending → Sending) (g : SendLane → SendLane) → ((s : Sending) → lookup t n ≡ Some s → (f s).lane ≡ g s.lane)
     → lanes_of (updated t n f (lookup t n)) ≡ updated (lanes_of t) n g (lookup (lanes_of t) n)
-lanes_updated t n f g is = go (lookup t n) refl ∙ ap (updated (lanes_of t) n g) (sym (lookup_lanes t n))
-  where
-    go : (o : Option Sending) → lookup t n ≡ o → lanes_of (updated t n f o) ≡ updated (lanes_of t) n g (option_map lane o)
-    go None e = refl
-    go (Some s) e = update_lanes t n (f s) ∙ ap (update (lanes_of t) n) (is s e)
+lanes_updated t n f g is = grind (arith, nat_tests, lookup_lanes, option_map, update_lanes)
 
 pub lanes_opened : (t : Tables Sending) (n : ℕ) (begin : ℕ → Sending) → lanes_of (open_to t n begin) ≡ open_to (lanes_of t) n (λ m. (begin m).lane)
 unfolding open_to
-lanes_opened t n begin =
-    let xs = table t (n % 4) in
-    let more : ℕ → List ℕ = (λ len. range_with_len len (n / 4 + 1 - len)) in
-    with_lanes t (n % 4) _
-    ∙ ap (with_table (lanes_of t) (n % 4))
-    (append_lanes xs _ ∙ ap (λ ys. map lane xs ++ ys) (map_lanes (λ i. begin (i * 4 + n % 4)) _)
-    ∙ ap (λ len. map lane xs ++ map (λ i. (begin (i * 4 + n % 4)).lane) (range_with_len len (n / 4 + 1 - len))) (sym (len_lanes xs))
-    ∙ ap (λ ys. widened ys (n / 4 + 1) (λ i. (begin (i * 4 + n % 4)).lane)) (sym (table_lanes t (n % 4))))
+lanes_opened t n begin = grind (arith, nat_tests, with_lanes, append_lanes, map_lanes, len_lanes, table_lanes)
 
 pub lanes_closed : (t : Tables Sending) (k count : ℕ) → lanes_of (with_table t k (take count (table t k))) ≡ with_table (lanes_of t) k (take count (table (lanes_of t) k))
 lanes_closed t k count = with_lanes t k _ ∙ ap (with_table (lanes_of t) k) (take_lanes count (table t k) ∙ ap (take count) (sym (table_lanes t k)))

@@ -1,19 +1,17 @@
 -- A frame that took effect on a receiving half and comes again passes its checks and leaves the half as it is.
-use Rattle.std.proofs.Common.{◌≡◌, ℕ, suc, ◌+◌, ◌-◌, ◌<◌, ◌≤◌, Bool, true, false, ◌||◌, cond, List, [], ◌∷◌, length, Option, Some, None, is_some, ◌⊎◌, refl, sym, ap, ◌∙◌, arith, inl, inr}
+use Rattle.std.proofs.Common.{◌≡◌, ℕ, ◌+◌, ◌<◌, ◌≤◌, Bool, true, false, ◌||◌, cond, List, [], ◌∷◌, length, Option, Some, None, is_some, ◌⊎◌, refl, sym, ap, ◌∙◌, arith, inl, inr}
 use Rattle.std.specs.Prelude.{max, nat_lt, ◌==◌, unwrap_or, Result, Ok, Err, IsOk}
 use Rattle.std.specs.Ordering.{nat_cmp}
 use Rattle.std.specs.FinMap as fmap
 use Rattle.std.specs.FinSet as set
-use Rattle.std.proofs.lemmas.Option.{none-some, same_Some}
-use Rattle.std.proofs.lemmas.Bool.{both_ways, cases_lt, cond_both, or_cases, or_left, or_right}
+use Rattle.std.proofs.lemmas.Bool.{both_ways, cond_both, or_cases, or_left, or_right}
 use Rattle.std.proofs.lemmas.Bool.Decides.{nat_tests}
-use Rattle.qs_ranges.specs.Numbers.{NumberSet, ContainsRange, is_within, numbers, end_of}
+use Rattle.qs_ranges.specs.Numbers.{NumberSet, ContainsRange, is_within, end_of}
 use Rattle.qs_ranges.proofs.Sets.{covers-is, covers-of, below-end_of}
 use Rattle.qs_ranges.proofs.Algebra.{inside, with_range-covered}
 use Rattle.qs_recv.specs.Assembled.{Assembled, put, store, discard, forget}
-use Rattle.qs_recv.specs.Lane.{RecvLane, highest, highest_after, check_stream, check_reset, check_bytes, take_stream, take_reset, is_whole, whole_to, breaks_known, raise, stop, stop_and_discard, is_over, after_read, after_answer, read_answer, set_window}
+use Rattle.qs_recv.specs.Lane.{RecvLane, highest, highest_after, check_stream, check_reset, check_bytes, take_stream, take_reset, is_whole, breaks_known, raise, stop, stop_and_discard, is_over, after_read, after_answer, read_answer, set_window}
 use Rattle.qs_recv.specs.declared.half.Read.{Read}
-use Rattle.qs_recv.specs.declared.half.Read.TheVariants as reads
 use Rattle.qs_recv.specs.Lawful.{IsLawful}
 use Rattle.qs_recv.specs.declared.half.Highest.{Highest}
 use Rattle.qs_recv.specs.declared.half.RecvFault.TheVariants.{FinalSize, StreamCredit, ChangedByte}
@@ -22,7 +20,7 @@ use Rattle.qs_recv.proofs.LaneLaws.{check_fits}
 use Rattle.qs_recv.specs.Laws.{Grows, IsUnchanged, TakeStream, TakeReset, ReadUpTo, StopWith}
 use Rattle.qs_recv.proofs.SameAgain.{check_is, taken_passes, stored_before as byte_before}
 use Rattle.qs_recv.proofs.SameLaws.{byte_in, same_none, same_true}
-use Rattle.qs_recv.proofs.LawfulLaws.{unbroken, reset_known, raised_grows, under_grows}
+use Rattle.qs_recv.proofs.LawfulLaws.{unbroken, raised_grows, under_grows}
 use Rattle.qs_recv.proofs.GrowthLaws.{grows_after_call}
 use Rattle.qs_machine.proofs.EndedHalves.{RecvStays, recv_stays, whole_stays, reset_stays_ended, read_stays, stop_stays, forget_stays}
 use Rattle.qs_machine.proofs.EveryCall.{same_either}
@@ -44,15 +42,7 @@ pub lane_same : (l : RecvLane) → LaneAfter l l
 lane_same l = record { limit = omega arith; received = λ q is. is; size = λ s is. is; reset = λ is. is; stored = λ q byte came is. is; ended = λ is. is }
 
 pub lane_twice : (l m k : RecvLane) → LaneAfter l m → LaneAfter m k → LaneAfter l k
-lane_twice l m k a b =
-    record {
-      limit = omega (arith, a.limit, b.limit);
-      received = λ q is. b.received q (a.received q is);
-      size = λ s is. b.size s (a.size s is);
-      reset = λ is. b.reset (a.reset is);
-      stored = λ q byte came is. a.stored q byte came (b.stored q byte (a.received q came) is);
-      ended = λ is. b.ended (a.ended is);
-    }
+lane_twice l m k a b = grind arith
 
 grown : (l m : RecvLane) → Grows l m → (is_some l.reset_code ≡ true → is_some m.reset_code ≡ true) → StaysStored l m → RecvStays l m → LaneAfter l m
 grown l m g reset stored ended = record { limit = g.limit_grows; received = g.received_stays; size = g.final_size_stays; reset = reset; stored = stored; ended = ended }
@@ -82,16 +72,13 @@ stop_after l code lawful =
     (byte_before l (StopWith code)) (stop_stays code l)
 
 pub forget_after : (l : RecvLane) (code : ℕ) → IsLawful l → LaneAfter l (stop_and_discard l code)
-forget_after l code lawful =
-    let s = stop_after l code lawful in
-    record { limit = s.limit; received = s.received; size = s.size; reset = s.reset; stored = s.stored; ended = forget_stays code l }
+forget_after l code lawful = grind (arith, nat_tests, stop_after, forget_stays)
 
 pub read_after : (l : RecvLane) (size : ℕ) → IsLawful l → LaneAfter l (after_read l size)
 read_after l size lawful = grown l (after_read l size) (grows_after_call l (ReadUpTo size) lawful tt) (by (read_answer l size)) (byte_before l (ReadUpTo size)) (read_stays size l)
   where
     by : (answer : Read) → is_some l.reset_code ≡ true → is_some (after_answer answer l size).reset_code ≡ true
-    by (reads.Bytes n) is = is
-    by answer is = is
+    by answer is = grind arith
 
 -- Data
 
@@ -114,13 +101,7 @@ pub record HasData (l : RecvLane) (offset : ℕ) (bytes : List ℕ) (fin : Bool)
   pub came : IsPassed l offset (length bytes) ⊎ IsThere l offset bytes
 
 there_stays : (l m : RecvLane) (offset : ℕ) (bytes : List ℕ) → LaneAfter l m → IsThere l offset bytes → IsThere m offset bytes
-there_stays l m offset bytes a all =
-    record {
-      received = λ q low high. a.received q (all.received q low high);
-      unchanged = λ q byte other is comes.
-          let r = byte_in offset bytes q other comes in
-          all.unchanged q byte other (a.stored q byte (all.received q r.0 r.1) is) comes;
-    }
+there_stays l m offset bytes a all = grind (arith, nat_tests, byte_in)
 
 pub data_stays : (l m : RecvLane) (offset : ℕ) (bytes : List ℕ) (fin : Bool) → LaneAfter l m → HasData l offset bytes fin → HasData m offset bytes fin
 data_stays l m offset bytes fin a h =
@@ -163,26 +144,13 @@ data_taken l offset bytes fin lawful ok alike =
 
 -- the bytes that came again lie below the highest offset
 data_inside : (m : RecvLane) (offset : ℕ) (bytes : List ℕ) (fin : Bool) → IsLawful m → HasData m offset bytes fin → 0 < length bytes → offset + length bytes ≤ highest m
-data_inside m offset bytes fin lawful h some =
-    elim h.came [
-      | inl p ↦ (let e : highest m ≡ p.size = ap (λ f. unwrap_or f (end_of m.arrived.received)) p.known in let le = p.inside some in omega (arith, e, le))
-      | inr all ↦ (let last = below-end_of m.arrived.received (offset + length bytes - 1) (all.received (offset + length bytes - 1) (omega arith) (omega arith)) in omega (arith, last, lawful.received_within))
-    ]
+data_inside m offset bytes fin lawful h some = grind (arith, nat_tests, below-end_of)
 
 not_broken : (f : Option ℕ) (end n : ℕ) (fin : Bool) (before : ℕ) → (fin ≡ true → f ≡ Some end) → ((s : ℕ) → f ≡ Some s → 0 < n → end ≤ s) → breaks_known f end n fin before ≡ false
-not_broken None end n true before sized small = absurd (none-some end (sized refl))
-not_broken None end n false before sized small = refl
-not_broken (Some s) end n true before sized small = let e : s ≡ end = same_Some s end (sized refl) in grind (arith, nat_tests)
-not_broken (Some s) end n false before sized small =
-    elim (cases_lt 0 n) [
-      | inl some ↦ (let le = small s refl some in grind (arith, nat_tests))
-      | inr none ↦ grind (arith, nat_tests)
-    ]
+not_broken f end n fin before sized small = grind arith
 
 same_highest : (f : Option ℕ) (h end n : ℕ) (fin : Bool) → (fin ≡ true → end ≡ h) → (0 < n → end ≤ h) → cond fin end (cond (is_some f || (n == 0)) h (max h end)) ≡ h
-same_highest f h end n true all small = all refl
-same_highest None h end (suc n) false all small = let le = small (omega arith) in let some : (suc n == 0) ≡ false = grind (arith, nat_tests) in ap (λ b. cond b h (max h end)) some ∙ omega (arith, le)
-same_highest f h end n false all small = refl
+same_highest f h end n fin all small = grind arith
 
 -- a check whose tests both pass
 both_pass : (b c : Bool) (h : Highest) → b ≡ false → c ≡ false → ◌≡◌ {A = Result Highest _} (cond b (Err FinalSize) (cond c (Err StreamCredit) (Ok h))) (Ok h)
@@ -196,10 +164,7 @@ stored_before r m at (byte ∷ bytes) all =
     ∙ stored_before r m (at + 1) bytes (λ q low high. all q (omega arith) (omega arith))
 
 pub put_again : (a : Assembled) (offset : ℕ) (bytes : List ℕ) → ContainsRange a.received offset (offset + length bytes) → put a offset bytes ≡ a
-put_again a offset bytes all =
-    let stored : cond a.discarding a.stored (store a.received a.stored offset bytes) ≡ a.stored = same_either (λ x. x) a.discarding a.stored _ (stored_before a.received a.stored offset bytes all) in
-    let received : set.union a.received (numbers offset (offset + length bytes)) ≡ a.received = with_range-covered a.received offset (offset + length bytes) all in
-    λ i. record a { stored = stored i; received = received i }
+put_again a offset bytes all = grind (arith, nat_tests, same_either, stored_before, with_range-covered)
 
 -- after a reset nothing is stored
 none_stored : (m : RecvLane) → IsLawful m → is_some m.reset_code ≡ true → (q : ℕ) → fmap.get m.arrived.stored q ≡ None
@@ -245,11 +210,7 @@ data_again m offset bytes fin lawful h = (passes, unchanged, (λ i. record m { a
     ]
 
     size : cond fin (Some (offset + n)) m.final_size ≡ m.final_size
-    size = by_end fin h.sized
-      where
-        by_end : (b : Bool) → (b ≡ true → m.final_size ≡ Some (offset + n)) → cond b (Some (offset + n)) m.final_size ≡ m.final_size
-        by_end true is = sym (is refl)
-        by_end false is = refl
+    size = grind arith
 
 -- Resets
 
@@ -260,51 +221,11 @@ pub record HasReset (l : RecvLane) (size : ℕ) : Type 0 where
   pub over : (is_some l.reset_code || is_whole l) ≡ true
 
 pub reset_stays : (l m : RecvLane) (size : ℕ) → LaneAfter l m → HasReset l size → HasReset m size
-reset_stays l m size a h =
-    record {
-      within = omega (arith, a.limit, h.within);
-      sized = a.size size h.sized;
-      over = elim (or_cases (is_some l.reset_code) (is_whole l) h.over) [
-        | inl reset ↦ or_left (is_some m.reset_code) (is_whole m) (a.reset reset)
-        | inr whole ↦ or_right (is_some m.reset_code) (is_whole m)
-            (ap (whole_to m.arrived.received) (a.size size h.sized)
-            ∙ covers-of m.arrived.received 0 size (λ q low high.
-            a.received q (covers-is l.arrived.received 0 size (sym (ap (whole_to l.arrived.received) h.sized) ∙ whole) q low high)))
-      ];
-    }
-
-reset_within : (l : RecvLane) (size : ℕ) → IsOk (check_reset l size) → size ≤ l.limit
-reset_within l size ok = let c : nat_lt l.limit size ≡ false = passed _ _ _ ok in grind (arith, nat_tests)
-  where
-    passed : (b c : Bool) (h : Highest) → IsOk (cond b (Err FinalSize) (cond c (Err StreamCredit) (Ok h))) → c ≡ false
-    passed false false h is = refl
-    passed _ c h is = absurd (both_ways false refl is)
-
-known_size : (f : Option ℕ) (e size : ℕ) → is_some f ≡ true → unwrap_or f e ≡ size → f ≡ Some size
-known_size None e size known is = absurd (both_ways false refl known)
-known_size (Some s) e size known is = ap Some is
-
-whole_known : (r : NumberSet) (f : Option ℕ) → whole_to r f ≡ true → is_some f ≡ true
-whole_known r None is = absurd (both_ways false refl is)
-whole_known r (Some s) is = refl
+reset_stays l m size a h = grind (arith, nat_tests, or_cases, or_left, or_right, covers-of, covers-is)
 
 pub reset_taken : (l : RecvLane) (code size : ℕ) → IsLawful l → IsOk (check_reset l size) → HasReset (take_reset l code size) size
-reset_taken l code size lawful ok = go (is_some l.reset_code || is_whole l) refl
-  where
-    go : (b : Bool) → (is_some l.reset_code || is_whole l) ≡ b → HasReset (cond b l (record l { arrived = forget l.arrived; final_size = Some size; reset_code = Some code })) size
-    go true over =
-        let known : is_some l.final_size ≡ true = elim (or_cases (is_some l.reset_code) (is_whole l) over) [ inl reset ↦ lawful.reset_sized reset | inr whole ↦ whole_known l.arrived.received l.final_size whole ] in
-        record { within = reset_within l size ok; sized = known_size l.final_size (end_of l.arrived.received) size known (reset_known l size ok known); over = over }
-    go false open_still = record { within = reset_within l size ok; sized = refl; over = refl }
+reset_taken l code size lawful ok = grind arith
 
 -- the reset passes its check, and leaves the half as it is
 pub reset_again : (m : RecvLane) (code size : ℕ) → HasReset m size → (check_reset m size ≡ Ok (record { before = highest m; after = highest m })) × (take_reset m code size ≡ m)
-reset_again m code size h =
-    let end : size + 0 ≡ size = omega arith in
-    let same : size ≡ highest m = sym (ap (λ f. unwrap_or f (end_of m.arrived.received)) h.sized) in
-    let within = h.within in
-    let fine = not_broken m.final_size (size + 0) 0 true (highest m) (λ _. h.sized ∙ ap Some (sym end)) (λ s is some. absurd (omega (arith, some))) in
-    let fits : nat_lt m.limit size ≡ false = grind (arith, nat_tests) in (
-      both_pass _ _ (record { before = highest m; after = size }) fine fits ∙ ap (λ k. Ok (record { before = highest m; after = k })) same,
-      ap (λ b. cond b m (record m { arrived = forget m.arrived; final_size = Some size; reset_code = Some code })) h.over,
-    )
+reset_again m code size h = grind arith

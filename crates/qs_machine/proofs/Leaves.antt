@@ -1,23 +1,21 @@
 -- What frames that come, acknowledgements, packets that are made and losses leave as it was.
-use Rattle.std.proofs.Common.{◌≡◌, ℕ, Bool, false, List, [], ◌∷◌, take, Option, Some, None, refl, ap, ◌∙◌}
-use Rattle.std.specs.Prelude.{Result, Ok, Err}
+use Rattle.std.proofs.lemmas.Bool.Decides.{nat_tests}
+use Rattle.std.proofs.Common.{arith}
+use Rattle.std.proofs.Common.{◌≡◌, ℕ, Bool, false, List, [], ◌∷◌, Option, refl, ap, ◌∙◌}
+use Rattle.std.specs.Prelude.{Result}
 use Rattle.std.specs.FinMap as fmap
 use Rattle.std.proofs.lemmas.Bool.{cond_both}
 use Rattle.qs_wire.specs.Layout.{PlacedValue}
 use Rattle.qs_wire.specs.declared.fault.WireFault.{WireFault}
-use Rattle.qs_wire.specs.declared.stream_id.Dir.TheVariants.{Uni}
 use Rattle.qs_send.specs.declared.piece.Item.{Item}
-use Rattle.qs_send.specs.declared.piece.Item.TheVariants.{MaxStreamData, MaxStreams, ResetStream, StopSending, StreamDataBlocked, StreamsBlocked}
 use Rattle.qs_send.specs.declared.piece.Piece.{Piece}
-use Rattle.qs_send.specs.declared.piece.Piece.TheVariants.{Told}
 use Rattle.qs_calls.specs.declared.closing.Closing.{Closing}
 use Rattle.qs_calls.specs.declared.closing.Received.{Received}
-use Rattle.qs_calls.specs.declared.closing.Received.TheVariants.{Done, NoMemory}
 use Rattle.qs_machine.specs.Tables.{no_streams}
 use Rattle.qs_machine.specs.LostPackets.{no_lost}
 use Rattle.qs_machine.specs.Ends.{End, is_own, opens, opened_by_peer, no_items}
-use Rattle.qs_machine.specs.Seen.{Seen, Ack, Stream, Control}
-use Rattle.qs_machine.specs.FrameStep.{frame_taken, item_taken, AckedPiece, without_piece, acks, first_acked, piece_acked, named}
+use Rattle.qs_machine.specs.Seen.{Seen}
+use Rattle.qs_machine.specs.FrameStep.{frame_taken, item_taken, AckedPiece, without_piece, acks, first_acked, piece_acked}
 use Rattle.qs_machine.specs.Lawful.{Fills, frame_put}
 use Rattle.qs_machine.specs.Receiving.{AtEnd, RunsOut, Stops}
 use Rattle.qs_machine.proofs.EveryCall.{stops_by}
@@ -27,9 +25,7 @@ abbrev pub but_sending : End → End
 but_sending e = record e { sends = no_streams; outstanding = fmap.empty; lost = no_lost; acked = no_items; ack_due = false }
 
 piece_leaves : (p : Piece) (e : End) → but_sending (piece_acked p e) ≡ but_sending e
-piece_leaves (Told (MaxStreams Uni m)) e = refl
-piece_leaves (Told (StreamsBlocked Uni m)) e = refl
-piece_leaves p e = refl
+piece_leaves p e = grind arith
 
 pub acks_leave : (ps : List AckedPiece) (e : End) → but_sending (acks ps e) ≡ but_sending e
 unfolding acks
@@ -38,8 +34,7 @@ acks_leave (p ∷ ps) e = acks_leave ps (first_acked p e) ∙ piece_leaves p.pie
 
 pub put_leaves : (f : Seen) (e : End) → but_sending (frame_put f e) ≡ but_sending e
 unfolding frame_put
-put_leaves (Control (StreamDataBlocked n m)) e = refl
-put_leaves f e = refl
+put_leaves f e = grind arith
 
 pub fills_leave : (old : End) (fs : List Seen) (e mid : End) → Fills old e fs mid → but_sending mid ≡ but_sending e
 fills_leave old [] e mid is = ap but_sending is
@@ -53,31 +48,19 @@ opened_leaves : (n : ℕ) (e : End) → but_streams (opened_by_peer n e) ≡ but
 opened_leaves n e = cond_both (is_own e n) e (opens n e) (λ x. but_streams x ≡ but_streams e) (λ _. refl) (λ _. refl)
 
 item_leaves : (i : Item) (e : End) → but_streams (item_taken i e) ≡ but_streams e
-item_leaves (MaxStreamData n m) e = opened_leaves n e
-item_leaves (MaxStreams Uni m) e = refl
-item_leaves (ResetStream n code size) e = opened_leaves n e
-item_leaves (StopSending n code) e = opened_leaves n e
-item_leaves (StreamDataBlocked n m) e = opened_leaves n e
-item_leaves i e = refl
+item_leaves i e = grind arith
 
 pub frame_leaves : (f : Seen) (e : End) → but_streams (frame_taken f e) ≡ but_streams e
 unfolding frame_taken
-frame_leaves (Ack largest ranges) e = ap (λ (x : End). record x { recvs = no_streams; known_data = 0; known_bidi = 0; known_uni = 0 }) (acks_leave (named e ranges) e)
-frame_leaves (Stream n offset bytes fin) e = opened_leaves n e
-frame_leaves (Control i) e = item_leaves i e
-frame_leaves f e = refl
+frame_leaves f e = grind (arith, nat_tests, acks_leave, opened_leaves, item_leaves)
 
 -- What ends the processing of a payload leaves the receiving halves.
 
 out_leaves : (f : Seen) (e new : End) → RunsOut e f new → new.recvs ≡ e.recvs
-out_leaves (Ack largest ranges) e new (count, is, asks) = ap (λ (x : End). x.recvs) is ∙ ap (λ (x : End). x.recvs) (acks_leave (take count (named e ranges)) e)
-out_leaves f e new out = ap (λ (x : End). x.recvs) out.0
+out_leaves f e new h = grind (arith, nat_tests, acks_leave)
 
 pub stops_leave : (p : PlacedValue) (f : Seen) (e : End) (result : Result Received Closing) (new : End) → Stops p f e result new → new.recvs ≡ e.recvs
 stops_leave p f e result new stops = stops_by (new.recvs ≡ e.recvs) p f e result new stops (λ c is fault. ap (λ (x : End). x.recvs) is) (λ is out. out_leaves f e new out)
 
 pub end_leaves : (number : ℕ) (asks : Bool) (fault : Option WireFault) (e : End) (result : Result Received Closing) (new : End) → AtEnd number asks fault e result new → new.recvs ≡ e.recvs
-end_leaves number asks None e (Ok Done) new is = ap (λ (x : End). x.recvs) is
-end_leaves number asks None e (Ok NoMemory) new out = ap (λ (x : End). x.recvs) out.0
-end_leaves number asks (Some fault) e (Err closing) new ends = ap (λ (x : End). x.recvs) ends.1
-end_leaves number asks fault e result new none = absurd none
+end_leaves number asks fault e result new is = grind arith

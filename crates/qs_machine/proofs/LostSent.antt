@@ -1,4 +1,5 @@
 -- What lost packets carried was sent: each call of an outbox keeps it.
+use Rattle.std.proofs.lemmas.Bool.Decides.{nat_tests}
 use Rattle.std.proofs.Common.{◌≡◌, ℕ, ◌≤◌, ◌%◌, Bool, true, false, List, [], ◌∷◌, ◌++◌, ◌⊎◌, length, take, Option, Some, None, is_some, Result, Ok, Err, unwrap_or, refl, sym, ap, ◌∙◌, subst, inl, inr, arith, leb, nat_cmp}
 use Rattle.std.proofs.lemmas.Bool.{cases_eq, cond_both, or_left}
 use Rattle.std.specs.FinMap as fmap
@@ -95,11 +96,7 @@ all_told t i = all_same t
 -- Lost packets with a piece more
 
 with_is : (m : Records) (k : ℕ) (p : Piece) → with_piece m k p (fmap.get m k) ≡ fmap.insert m k (pieces_in m k ++ p ∷ [])
-with_is m k p = go (fmap.get m k)
-  where
-    go : (o : Option (List Piece)) → with_piece m k p o ≡ fmap.insert m k ((elim o as (λ _. List Piece) [ None ↦ [] | Some ps ↦ ps ]) ++ p ∷ [])
-    go None = refl
-    go (Some ps) = refl
+with_is m k p = grind arith
 
 carried_oldest : (m : Records) (order : List ℕ) (q : Piece) → IsCarried (without_oldest m order) q → IsCarried m q
 carried_oldest m [] q out = out
@@ -188,9 +185,7 @@ sent_less t m new k is h p out = h p (carried-without_first m k p (subst (λ (x 
 -- Streams
 
 open_of_sent : (t : Tables Sending) (p : Piece) → IsSentPiece t p → IsOfOpen (lanes_of t) p
-open_of_sent t (Data n c) (s, at, w) = ap is_some (lane_there t n s at)
-open_of_sent t (Told (ResetStream n code size)) (s, at, r) = subst IsOfReset (sym (lane_there t n s at)) r
-open_of_sent t p h = tt
+open_of_sent t p h = grind (arith, nat_tests, lane_there)
 
 pub all_open : (t : Tables Sending) (m : Records) → AreSent t m → AreOfOpen (lanes_of t) m
 all_open t m h p out = open_of_sent t p (h p out)

@@ -1,14 +1,12 @@
 -- The numbers of outstanding packets that a test takes, from the highest down.
 use Rattle.std.proofs.Common.{◌≡◌, ℕ, ◌+◌, ◌<◌, ◌≤◌, Bool, true, false, ◌&&◌, ◌||◌, cond, List, [], ◌∷◌, ◌++◌, map, append-nil, nat_cmp, is_some, refl, sym, subst, ap, ◌∙◌, inl, inr, arith}
-use Rattle.std.specs.Prelude.{⊤, T, nat_lt, reverse, ◌==◌}
+use Rattle.std.specs.Prelude.{⊤, T, reverse}
 use Rattle.std.specs.List.{list_any, filter}
 use Rattle.std.specs.Ordering.{eq_by_cmp, is_lt}
-use Rattle.std.specs.declared.cmp.Ordering.TheVariants.{Less, Equal, Greater}
 use Rattle.std.specs.Cmp.{unsigned_tied}
 use Rattle.std.specs.FinMap as fmap
 use Rattle.std.specs.FinMap.Entries.{below_all}
 use Rattle.std.proofs.lemmas.Bool.{both_ways, eq-eqb, true_from_ne_false, or_parts}
-use Rattle.std.proofs.lemmas.Bool.Decides.{nat_tests}
 use Rattle.std.proofs.lemmas.List.{reverse-append}
 use Rattle.std.proofs.lemmas.List.Elements.{filter-append}
 use Rattle.qs_send.specs.Records.{Among}
@@ -20,7 +18,7 @@ abbrev pub Rises : ℕ → List ℕ → Type 0
 Rises low [] = ⊤
 Rises low (x ∷ xs) = (low ≤ x) × Rises (x + 1) xs
 
-above : (low : ℕ) (xs : List ℕ) → Rises low xs → (j : ℕ) → Among j xs → low ≤ j
+pub above : (low : ℕ) (xs : List ℕ) → Rises low xs → (j : ℕ) → Among j xs → low ≤ j
 above low [] r j a = absurd a
 above low (x ∷ xs) r j (inl e) = omega (arith, r.0, e)
 above low (x ∷ xs) r j (inr a) = (let h = above (x + 1) xs r.1 j a in omega (arith, r.0, h))
@@ -34,14 +32,9 @@ filter_same f g [] h = refl
 filter_same f g (x ∷ xs) h =
     ap (λ b. cond b (x ∷ filter f xs) (filter f xs)) (h x (inl refl)) ∙ ap (λ ys. cond (g x) (x ∷ ys) ys) (filter_same f g xs (λ j a. h j (inr a)))
 
-cond_append : (b : Bool) (x : ℕ) (xs ys : List ℕ) → cond b (x ∷ xs ++ ys) (xs ++ ys) ≡ cond b (x ∷ xs) xs ++ ys
-cond_append true x xs ys = refl
-cond_append false x xs ys = refl
-
 -- a filter that finds, of a list's head and the rest, what another one does and then ys
 filter_then : (f g : ℕ → Bool) (x : ℕ) (xs ys : List ℕ) → f x ≡ g x → filter f xs ≡ filter g xs ++ ys → filter f (x ∷ xs) ≡ filter g (x ∷ xs) ++ ys
-filter_then f g x xs ys here rest =
-    ap (λ b. cond b (x ∷ filter f xs) (filter f xs)) here ∙ ap (λ zs. cond (g x) (x ∷ zs) zs) rest ∙ cond_append (g x) x (filter g xs) ys
+filter_then f g x xs ys here rest = grind arith
 
 -- The greatest number that is looked for comes first.
 greatest_first : (f g : ℕ → Bool) (k start : ℕ) (xs : List ℕ) → Rises start xs → Among k xs → f k ≡ true → ((j : ℕ) → k ≤ j → g j ≡ false) → ((j : ℕ) → j < k → f j ≡ g j) → ((j : ℕ) → k < j → Among j xs → f j ≡ false)
@@ -64,23 +57,13 @@ greatest_first f g k start (x ∷ xs) r (inr a) is out same none =
 -- The keys of a map
 
 and_first : (a b : Bool) → T (a && b) → T a
-and_first true b h = tt
-and_first false b h = absurd h
+and_first a b h = grind arith
 
 and_second : (a b : Bool) → T (a && b) → T b
-and_second true b h = h
-and_second false b h = absurd h
+and_second a b h = grind arith
 
 less_is : (x y : ℕ) → T (is_lt (nat_cmp x y)) → x < y
-less_is x y h = go (nat_lt x y) refl h
-  where
-    never : (c : Bool) → T (is_lt (cond c Equal Greater)) → ⊥
-    never true h = h
-    never false h = h
-
-    go : (b : Bool) → nat_lt x y ≡ b → T (is_lt (cond b Less (cond (x == y) Equal Greater))) → x < y
-    go true e h = grind (arith, nat_tests, e)
-    go false e h = absurd (never (x == y) h)
+less_is x y h = grind arith
 
 module _ {X : Type 0} where
   rise_after : (x : ℕ) (es : List (ℕ × X)) → T (below_all nat_cmp x es) → T (fmap.is_sorted nat_cmp es) → Rises (x + 1) (map (λ e. e.0) es)
@@ -91,7 +74,7 @@ module _ {X : Type 0} where
   rise [] s = tt
   rise (e ∷ es) s = (omega arith, rise_after e.0 es (and_first _ _ s) (and_second _ _ s))
 
-  keys_rise : (m : fmap.FinMap nat_cmp X) → Rises 0 (fmap.keys m)
+  pub keys_rise : (m : fmap.FinMap nat_cmp X) → Rises 0 (fmap.keys m)
   keys_rise m = rise (fmap.entries m) (fmap.entries_sorted m)
 
 any_among : (k : ℕ) (xs : List ℕ) → list_any (eq_by_cmp nat_cmp k) xs ≡ false → Among k xs → ⊥
@@ -131,8 +114,7 @@ filter_both f g [] = refl
 filter_both f g (x ∷ xs) = go (g x) (filter g xs) (filter (λ y. g y && f y) xs) (filter_both f g xs)
   where
     go : (b : Bool) (ys zs : List ℕ) → filter f ys ≡ zs → filter f (cond b (x ∷ ys) ys) ≡ cond (b && f x) (x ∷ zs) zs
-    go true ys zs h = ap (λ ws. cond (f x) (x ∷ ws) ws) h
-    go false ys zs h = h
+    go b ys zs h = grind arith
 
 pub filter_reverse : (f : ℕ → Bool) (xs : List ℕ) → filter f (reverse xs) ≡ reverse (filter f xs)
 filter_reverse f [] = refl
@@ -168,8 +150,7 @@ one_list low (x ∷ xs) (y ∷ ys) r s to from =
     ap (λ z. z ∷ xs) same ∙ ap (λ zs. y ∷ zs) (one_list (x + 1) xs ys r.1 (subst (λ z. Rises (z + 1) ys) (sym same) s.1) (λ j h. later j x y ys same (above (x + 1) xs r.1 j h) (to j (inr h))) (λ j h. later j y x xs (sym same) (above (y + 1) ys s.1 j h) (from j (inr h))))
   where
     later : (j x y : ℕ) (ys : List ℕ) → x ≡ y → x + 1 ≤ j → Among j (y ∷ ys) → Among j ys
-    later j x y ys same le (inl e) = absurd (omega (arith, same, le, e))
-    later j x y ys same le (inr a) = a
+    later j x y ys same le h = grind arith
 
 module _ {X : Type 0} (m n : fmap.FinMap nat_cmp X) (within : (j : ℕ) → is_some (fmap.get n j) ≡ true → is_some (fmap.get m j) ≡ true) where
   -- the keys of a map that holds no other numbers

@@ -1,13 +1,13 @@
 -- What the frames of a payload newly acknowledge, one after the other.
-use Rattle.std.proofs.Common.{◌≡◌, ℕ, Bool, true, false, not, ◌&&◌, cond, nat_eq, List, [], ◌∷◌, ◌++◌, take, Option, Some, None, is_some, refl, sym, ap, ◌∙◌, subst}
+use Rattle.std.proofs.lemmas.Bool.Decides.{nat_tests}
+use Rattle.std.proofs.Common.{arith}
+use Rattle.std.proofs.Common.{◌≡◌, ℕ, Bool, true, false, not, List, [], ◌∷◌, ◌++◌, take, Option, Some, is_some, refl, sym, ap, ◌∙◌, subst}
 use Rattle.std.specs.Prelude.{reverse}
 use Rattle.std.specs.List.{AllByRecursion, filter, FoldsTo}
 use Rattle.std.specs.FinMap as fmap
 use Rattle.std.proofs.Math.Bool.{and-false, and-true}
 use Rattle.std.proofs.lemmas.Bool.{both_ways, true_from_ne_false, false_from_ne_true}
-use Rattle.qs_wire.specs.declared.stream_id.Dir.TheVariants.{Bidi}
 use Rattle.qs_send.specs.declared.piece.Item.{Item}
-use Rattle.qs_send.specs.declared.piece.Item.TheVariants.{MaxStreamData, MaxStreams, ResetStream, StopSending, StreamDataBlocked}
 use Rattle.qs_send.specs.declared.piece.Piece.{Piece}
 use Rattle.qs_send.specs.Records.{NoneEmpty, without_first}
 use Rattle.qs_send.proofs.Carrying.{rest_of, get-without_first, get_other-without_first}
@@ -31,34 +31,19 @@ abbrev pub Within : End → End → Type 0
 Within new e = (j : ℕ) → holds new j ≡ true → holds e j ≡ true
 
 bare_held : (m : Records) (j : ℕ) → NoneEmpty m → IsBare (fmap.get m j) → is_some (fmap.get m j) ≡ false
-bare_held m j none bare = go (fmap.get m j) refl bare
-  where
-    go : (o : Option (List Piece)) → fmap.get m j ≡ o → IsBare o → is_some o ≡ false
-    go None is b = refl
-    go (Some []) is b = absurd (none j is)
-    go (Some (p ∷ ps)) is b = absurd b
+bare_held m j none bare = grind arith
 
 held_bare : (o : Option (List Piece)) → is_some o ≡ false → IsBare o
-held_bare None is = tt
-held_bare (Some ps) is = absurd (both_ways true is refl)
+held_bare o is = grind arith
 
 rest_full : (o : Option (List Piece)) → rest_of o ≡ Some [] → ⊥
-rest_full (Some (p ∷ q ∷ ps)) is = absurd (both_ways false refl (ap (λ o. elim o [ None ↦ true | Some xs ↦ elim xs [ [] ↦ true | x ∷ ys ↦ false ] ]) is))
-rest_full _ is = absurd (both_ways false refl (ap is_some is))
+rest_full o is = grind arith
 
 none_less : (m : Records) (k : ℕ) → NoneEmpty m → NoneEmpty (without_first m k (fmap.get m k))
-none_less m k none j is = go (nat_eq j k) (sym (get-without_first m k j) ∙ is)
-  where
-    go : (b : Bool) → cond b (rest_of (fmap.get m k)) (fmap.get m j) ≡ Some [] → ⊥
-    go true e = rest_full (fmap.get m k) e
-    go false e = none j e
+none_less m k none j is = grind (arith, nat_tests, get-without_first, rest_of, rest_full)
 
 none_first : (a : AckedPiece) (e : End) → NoneEmpty e.outstanding → NoneEmpty (first_acked a e).outstanding
-none_first a e none = subst NoneEmpty (sym (held_piece false a.piece (without_piece a.late a.number e))) (go a.late)
-  where
-    go : (b : Bool) → NoneEmpty (without_piece b a.number e).outstanding
-    go true = none
-    go false = none_less e.outstanding a.number none
+none_first a e none = grind (arith, nat_tests, held_piece, none_less)
 
 none_acks : (ps : List AckedPiece) (e : End) → NoneEmpty e.outstanding → NoneEmpty (acks ps e).outstanding
 unfolding acks
@@ -129,30 +114,15 @@ false_from_not b c is from = false_from_ne_true c (λ now. both_ways b is (from 
 -- of the packets that are gone those that an ACK names, where one that it names is gone with it or stays
 pub told_first : (r : List (ℕ × ℕ)) (e mid new : End) → ((j : ℕ) → is_named r j ≡ true → holds new j ≡ holds mid j)
     → reverse (filter (is_named r) (gone e new)) ≡ filter (λ n. not (fmap.contains_key mid.outstanding n)) (acked_numbers e.outstanding r)
-told_first r e mid new alike =
-    ap reverse (filters_held e.outstanding (is_named r) (λ n. not (holds new n)) (λ n. not (holds mid n)) (is_named r) (λ j is. go j (is_named r j) refl))
-    ∙ sym (filter_reverse (λ n. not (holds mid n)) (filter (is_named r) (fmap.keys e.outstanding)))
-  where
-    go : (j : ℕ) (b : Bool) → is_named r j ≡ b → (not (holds new j) && b) ≡ (b && not (holds mid j))
-    go j true is = and-true (not (holds new j)) ∙ ap not (alike j is)
-    go j false is = and-false (not (holds new j))
+told_first r e mid new alike = grind (arith, nat_tests, filters_held, not, filter_reverse, and-true, and-false)
 
 -- and those that it doesn't name, where it took effect
 pub told_later : (r : List (ℕ × ℕ)) (e mid new : End) → AcksSome r e mid → ((j : ℕ) → is_named r j ≡ true → holds mid j ≡ false) → filter (λ n. not (is_named r n)) (gone e new) ≡ gone mid new
-told_later r e mid new some off =
-    filter_within e.outstanding mid.outstanding some.within (λ n. not (is_named r n)) (λ n. not (holds new n)) (λ n. not (holds new n)) (λ j is. go j is (is_named r j) refl)
-  where
-    go : (j : ℕ) → holds e j ≡ true → (b : Bool) → is_named r j ≡ b → (not (holds new j) && not b) ≡ (holds mid j && not (holds new j))
-    go j is true names = and-false (not (holds new j)) ∙ sym (ap (λ b. b && not (holds new j)) (off j names))
-    go j is false names = and-true (not (holds new j)) ∙ sym (ap (λ b. b && not (holds new j)) (some.others j names ∙ is))
+told_later r e mid new some off = grind (arith, nat_tests, filter_within, not, and-false, and-true)
 
 -- and where it did so in part, and nothing follows
 pub told_last : (r : List (ℕ × ℕ)) (e new : End) → ((j : ℕ) → is_named r j ≡ false → holds new j ≡ holds e j) → filter (λ n. not (is_named r n)) (gone e new) ≡ []
-told_last r e new others = filters_nothing e.outstanding (λ n. not (is_named r n)) (λ n. not (holds new n)) (λ j is. go j is (is_named r j) refl)
-  where
-    go : (j : ℕ) → holds e j ≡ true → (b : Bool) → is_named r j ≡ b → (not (holds new j) && not b) ≡ false
-    go j is true names = and-false (not (holds new j))
-    go j is false names = and-true (not (holds new j)) ∙ ap not (others j names ∙ is)
+told_last r e new others = grind (arith, nat_tests, filters_nothing, not, and-false, and-true)
 
 -- what is told now, and then what follows
 pub tells_on : {S : Type 0} (R : S → ℕ → S → Type 0) (s : S) (xs : List ℕ) (t : S) (ys : List ℕ) (u : S) → FoldsTo R s xs t → FoldsTo R t ys u → FoldsTo R s (xs ++ ys) u
@@ -162,12 +132,7 @@ tells_on R s (x ∷ xs) t ys u (j, one, rest) later = (j, one, tells_on R j xs t
 -- Other frames
 
 pub item_out : (i : Item) (e : End) → (item_taken i e).outstanding ≡ e.outstanding
-item_out (MaxStreamData n m) e = out_peer e n (is_own e n)
-item_out (MaxStreams Bidi m) e = refl
-item_out (ResetStream n code size) e = out_peer e n (is_own e n)
-item_out (StopSending n code) e = out_peer e n (is_own e n)
-item_out (StreamDataBlocked n m) e = out_peer e n (is_own e n)
-item_out _ e = refl
+item_out i e = grind arith
 
 pub stream_out : (n offset : ℕ) (bytes : List ℕ) (fin : Bool) (e : End) → (frame_taken (Stream n offset bytes fin) e).outstanding ≡ e.outstanding
 unfolding frame_taken

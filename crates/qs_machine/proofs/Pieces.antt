@@ -1,4 +1,5 @@
 -- What holds of every element of a list, and of every piece that an ACK takes.
+use Rattle.std.proofs.Common.{arith}
 use Rattle.std.proofs.Common.{◌≡◌, ℕ, suc, Bool, true, false, List, [], ◌∷◌, ◌++◌, map, take, reverse, Option, Some, None, refl, sym, subst, inl, inr, if◌then◌else◌}
 use Rattle.std.specs.Prelude.{flat_map}
 use Rattle.std.specs.List.{AllByRecursion, filter}
@@ -33,8 +34,7 @@ module _ {X : Type 0} where
   All_filter p (x ∷ xs) = go (All_filter p xs) (p x) refl
     where
       go : AllByRecursion (λ y. p y ≡ true) (filter p xs) → (b : Bool) → p x ≡ b → AllByRecursion (λ y. p y ≡ true) (if b then x ∷ filter p xs else filter p xs)
-      go rest true e = (e, rest)
-      go rest false e = rest
+      go rest b e = grind arith
 
   pub All_reverse : (P : X → Type 0) (xs : List X) → AllByRecursion P xs → AllByRecursion P (reverse xs)
   All_reverse P [] a = tt

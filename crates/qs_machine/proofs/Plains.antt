@@ -1,9 +1,10 @@
 -- Plain frames tell nothing, wherever they stand.
-use Rattle.std.proofs.Common.{◌≡◌, ℕ, Bool, true, false, not, ◌||◌, cond, List, [], ◌∷◌, inl, inr, ◌⊎◌, Option, None, Some, Result, Ok, Err, refl, sym, ap, ◌∙◌, subst, nat_lt}
+use Rattle.std.proofs.lemmas.Bool.Decides.{nat_tests}
+use Rattle.std.proofs.Common.{arith}
+use Rattle.std.proofs.Common.{◌≡◌, ℕ, Bool, true, false, not, ◌||◌, cond, List, [], ◌∷◌, inl, inr, ◌⊎◌, Option, None, Some, Result, Ok, refl, sym, ap, ◌∙◌, subst, nat_lt}
 use Rattle.std.specs.Prelude.{MatchBool}
 use Rattle.std.specs.FinSet as set
 use Rattle.std.proofs.lemmas.Bool.{false≢true}
-use Rattle.std.proofs.lemmas.Option.{none-some}
 use Rattle.qs_wire.specs.Layout.{PlacedValue}
 use Rattle.qs_wire.specs.Grammar.{frames_of}
 use Rattle.qs_wire.specs.Reading.{reading_of}
@@ -15,7 +16,7 @@ use Rattle.qs_calls.specs.declared.closing.Closed.TheVariants.{ByPeer}
 use Rattle.qs_calls.specs.declared.closing.Received.TheVariants.{Done, Duplicate, BelowFloor, PeerClosed, NoMemory}
 use Rattle.qs_machine.specs.Ends.{End, closes}
 use Rattle.qs_machine.specs.Credit.{settle}
-use Rattle.qs_machine.specs.Seen.{Seen, Ack, Stream, Control, Close, Plain, seen, seen_all, asks_ack}
+use Rattle.qs_machine.specs.Seen.{Seen, Close, Plain, seen, seen_all, asks_ack}
 use Rattle.qs_machine.specs.Verdicts.{verdict}
 use Rattle.qs_machine.specs.FrameStep.{frame_taken}
 use Rattle.qs_machine.specs.Recording.{recorded}
@@ -34,19 +35,12 @@ seen_in ps = seen_all (frames_of ps)
 
 -- a frame that ends the processing without a closing of ours does so wherever it stands
 elsewhere : (p q : PlacedValue) (f : Seen) (e new : End) (r : Received) → Stops p f e (Ok r) new → Stops q f e (Ok r) new
-elsewhere p q (Close code) e new (PeerClosed told) h = h
-elsewhere p q (Ack largest ranges) e new NoMemory h = h
-elsewhere p q (Stream n offset bytes fin) e new NoMemory h = h
-elsewhere p q (Control item) e new NoMemory h = h
-elsewhere p q (Plain asks) e new NoMemory h = h
-elsewhere p q f e new r h = absurd h
+elsewhere p q f e new r h = grind arith
 
 -- a plain frame ends nothing
 pub plain_stops : (p : PlacedValue) (asks : Bool) (e new : End) (result : Result Received Closing) → Stops p (Plain asks) e result new → ⊥
 unfolding verdict
-plain_stops p asks e new (Ok NoMemory) h = h.1.1
-plain_stops p asks e new (Ok r) h = h
-plain_stops p asks e new (Err closing) h = none-some closing.code h.0
+plain_stops p asks e new result h = grind arith
 
 -- the payload that is left of two that differ in plain frames alone
 module _ (k : ℕ) where
@@ -69,9 +63,7 @@ module _ (k : ℕ) where
   passed : (g : Seen) (p : PlacedValue) (ps : List PlacedValue) (asks : Bool) (e new : End) (r : Received) → is_plain g ≡ true → Stops p g e (Ok r) new ⊎ (GoesOn e g × Takes k None (asks || asks_ack g) (frame_taken g e) ps (Ok r) new)
       → (b : Bool) × Takes k None b e ps (Ok r) new
   unfolding frame_taken
-  passed (Plain more) p ps asks e new r plain (inl stops) = absurd (plain_stops p more e new (Ok r) stops)
-  passed (Plain more) p ps asks e new r plain (inr (goes, takes)) = (asks || more, takes)
-  passed g p ps asks e new r plain h = absurd (false≢true plain)
+  passed g p ps asks e new r plain h = grind arith
 
   -- the frame stops there too, or is passed there too
   step : (g : Seen) (p q : PlacedValue) (ps qs : List PlacedValue) (asks other : Bool) (e new : End) (r : Received) → seen q.frame ≡ g
@@ -139,11 +131,7 @@ module _ (k : ℕ) where
 
 -- a frame of either payload stands in the other, or it is plain
 pub differ_covers : (text other : List ℕ) → DifferInPlain text other → (g : Seen) → Among g (frames_in text) → Among g (frames_in other) ⊎ (is_plain g ≡ true)
-differ_covers text other differ g a = by (is_plain g) refl
-  where
-    by : (b : Bool) → is_plain g ≡ b → Among g (frames_in other) ⊎ (is_plain g ≡ true)
-    by true is = inr is
-    by false is = inl (filter_among _ g (frames_in other) (subst (Among g) differ.same (among_filter _ g (frames_in text) a (ap not is)))).0
+differ_covers text other differ g a = grind (arith, nat_tests, filter_among, among_filter, not)
 
 pub differ_turned : (text other : List ℕ) → DifferInPlain text other → DifferInPlain other text
 differ_turned text other differ = record { reads = differ.reads_other; reads_other = differ.reads; same = sym differ.same }
@@ -181,18 +169,10 @@ code_in (Close code ∷ fs) = code
 code_in fs = 0
 
 module _ (Q : Result Received Closing → End → Type 0) (k code : ℕ) (e : End) (fault : Option WireFault) (closed : Q (Ok (PeerClosed code)) (closes (ByPeer code) e)) where
-  close_stops : (p : PlacedValue) (c : ℕ) (result : Result Received Closing) (mid : End) → c ≡ code → Stops p (Close c) e result mid → Q result mid
-  close_stops p c (Ok (PeerClosed told)) mid is h = rw (h.0 ∙ is) (rw (h.1 ∙ ap (λ d. closes (ByPeer d) e) is) closed)
-  close_stops p c result mid is h = absurd h
-
   close_goes : (p : PlacedValue) (f : Seen) (fs : List Seen) (left : List PlacedValue) (asks : Bool) (result : Result Received Closing) (mid : End) → but_plain (f ∷ fs) ≡ Close code ∷ [] →
       Stops p f e result mid ⊎ (GoesOn e f × Takes k fault (asks || asks_ack f) (frame_taken f e) left result mid) → ((b : Bool) → but_plain fs ≡ Close code ∷ [] → Takes k fault b e left result mid → Q result mid) → Q result mid
   unfolding frame_taken
-  close_goes p (Plain more) fs left asks result mid is (inl stops) rest = absurd (plain_stops p more e mid result stops)
-  close_goes p (Plain more) fs left asks result mid is (inr (goes, takes)) rest = rest (asks || more) is takes
-  close_goes p (Close c) fs left asks result mid is (inl stops) rest = close_stops p c result mid (ap code_in is) stops
-  close_goes p (Close c) fs left asks result mid is (inr (goes, takes)) rest = absurd goes
-  close_goes p f fs left asks result mid is h rest = absurd (cc is)
+  close_goes p f fs left asks result mid is h rest = grind (arith, nat_tests, plain_stops)
 
   close_taken : (left : List PlacedValue) (asks : Bool) (result : Result Received Closing) (mid : End) → but_plain (seen_in left) ≡ Close code ∷ [] → Takes k fault asks e left result mid → Q result mid
   close_taken [] asks result mid is h = absurd (cc is)

@@ -1,5 +1,5 @@
 -- The lowest run of a set of numbers, and a set with one number more.
-use Rattle.std.proofs.Common.{◌≡◌, ℕ, ◌+◌, ◌<◌, ◌≤◌, ◌⊎◌, Bool, true, false, ◌||◌, List, [], ◌∷◌, refl, sym, ap, ◌∙◌, arith, inl, inr}
+use Rattle.std.proofs.Common.{◌≡◌, ℕ, ◌+◌, ◌<◌, ◌≤◌, ◌⊎◌, true, false, ◌||◌, List, [], ◌∷◌, refl, sym, ap, ◌∙◌, arith, inl, inr}
 use Rattle.std.specs.Prelude.{min}
 use Rattle.std.specs.List.{list_any}
 use Rattle.std.specs.Ordering.{nat_cmp, eq_by_cmp}
@@ -59,22 +59,7 @@ least_member s m h =
 
 -- where a number is listed, the least one is, and none below it
 least_listed : (n : ℕ) (ks : List ℕ) → list_any (eq_by_cmp nat_cmp n) ks ≡ true → (list_any (eq_by_cmp nat_cmp (least_in ks)) ks ≡ true) × ((q : ℕ) → q < least_in ks → list_any (eq_by_cmp nat_cmp q) ks ≡ false)
-least_listed n [] has = absurd (both_ways false refl has)
-least_listed n (k ∷ ks) has = (
-  elim (least_is_one k ks) [
-    | inl first ↦ or_left _ _ (ap (λ x. eq_by_cmp nat_cmp x k) first ∙ tied_itself k)
-    | inr later ↦ or_right _ _ later
-  ],
-  λ q lt. go q lt (list_any (eq_by_cmp nat_cmp q) (k ∷ ks)) refl,
-)
-  where
-    go : (q : ℕ) → q < least_of k ks → (b : Bool) → list_any (eq_by_cmp nat_cmp q) (k ∷ ks) ≡ b → b ≡ false
-    go q lt false is = refl
-    go q lt true is =
-        elim (or_cases _ _ is) [
-          | inl here ↦ (let e : q ≡ k = eqb-true q k (sym (unsigned_tied q k) ∙ here) in absurd (omega (arith, lt, least_le k ks)))
-          | inr later ↦ absurd (omega (arith, lt, least_below k q ks later))
-        ]
+least_listed n ks has = grind (arith, nat_tests, both_ways, least_is_one, or_left, tied_itself, or_right, or_cases, eqb-true, least_le, least_below)
 
 -- a set with a member has a lowest run
 pub lowest_run : (s : NumberSet) (n : ℕ) → set.contains s n ≡ true → IsRunFrom s 0 (least_in (set.items s), missing_from s (least_in (set.items s)))

@@ -4,7 +4,7 @@ use Rattle.std.specs.Prelude.{cond, Ok}
 use Rattle.std.proofs.lemmas.Option.{same_Some}
 use Rattle.std.proofs.lemmas.Bool.{cond_both}
 use Rattle.qs_wire.specs.declared.stream_id.Dir.TheVariants.{Uni}
-use Rattle.qs_send.specs.Lane.{SendLane, new_lane as new_send_lane, reset_refusal, write_lane, finish_lane, reset_lane, broken_off, first_code, stop_taken, acked_lane, allow_lane, reset_acked_lane, blocked_lane, sent_lane, buffer_lane}
+use Rattle.qs_send.specs.Lane.{SendLane, new_lane as new_send_lane, reset_refusal, write_lane, finish_lane, reset_lane, stop_taken, acked_lane, allow_lane, reset_acked_lane, blocked_lane, sent_lane, buffer_lane}
 use Rattle.qs_send.specs.declared.piece.Item.{Item}
 use Rattle.qs_send.specs.declared.piece.Item.TheVariants.{MaxStreamData, MaxStreams, ResetStream, StopSending, StreamDataBlocked, StreamsBlocked}
 use Rattle.qs_send.specs.declared.piece.Piece.{Piece}
@@ -100,8 +100,7 @@ reset_written : (code : ℕ) (l : SendLane) → l.written ≤ (reset_lane l code
 reset_written code l = cond_both (is_some (reset_refusal l)) l (record l { kept = []; was_reset = Some (record { code = code; size = cond l.fin_sent l.written l.sent_end }) }) (λ m. l.written ≤ m.written) (λ _. omega arith) (λ _. omega arith)
 
 stop_taken_written : (answers : Bool) (code : ℕ) (l : SendLane) → l.written ≤ (stop_taken answers l code).written
-stop_taken_written true code l = cond_both (is_some (reset_refusal l)) l (record l { stopped = first_code l.stopped code }) (λ m. l.written ≤ m.written) (λ _. omega arith) (λ _. omega arith)
-stop_taken_written false code l = cond_both (is_some (reset_refusal l)) l (record (broken_off l code) { stopped = first_code l.stopped code }) (λ m. l.written ≤ m.written) (λ _. omega arith) (λ _. omega arith)
+stop_taken_written answers code l = grind arith
 
 -- after an opening a half changes
 opened_send : (n : ℕ) (f : SendLane → SendLane) (e : End) → ((l : SendLane) → l.written ≤ (f l).written) → Keeps e (on_send n f (opened_by_peer n e))

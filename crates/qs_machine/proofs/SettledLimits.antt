@@ -1,5 +1,5 @@
 -- As each call ends every limit is its own next one.
-use Rattle.std.proofs.Common.{◌≡◌, cond, Option, Some, None, is_some, refl, sym, ap, ◌∙◌, subst, arith}
+use Rattle.std.proofs.Common.{◌≡◌, Option, Some, None, refl, sym, ap, ◌∙◌, subst, arith}
 use Rattle.std.specs.Prelude.{Ok, option_map}
 use Rattle.std.proofs.lemmas.Bool.Decides.{nat_tests}
 use Rattle.std.proofs.lemmas.Option.{same_Some, none-some}
@@ -9,14 +9,14 @@ use Rattle.qs_calls.specs.declared.settings.Settings.{Settings}
 use Rattle.qs_calls.specs.declared.settings.Tuning.{Tuning}
 use Rattle.qs_calls.specs.declared.settings.PeerLimits.{PeerLimits}
 use Rattle.qs_calls.specs.Settings.{wide_setup_fault}
-use Rattle.qs_machine.specs.Tables.{lookup, total}
+use Rattle.qs_machine.specs.Tables.{total}
 use Rattle.qs_machine.specs.Ends.{End, new_end, wide_end_made}
 use Rattle.qs_machine.specs.Credit.{settle, all_taken}
 use Rattle.qs_machine.specs.EndStep.{Call, Answer, EndStep}
 use Rattle.qs_machine.specs.SettledLimits.{LimitsAreSettled}
 use Rattle.qs_machine.proofs.Counts.{made_end, no_lane}
 use Rattle.qs_machine.proofs.EveryCall.{ends_by}
-use Rattle.qs_machine.proofs.Again.{next_twice, raise_twice}
+use Rattle.qs_machine.proofs.Again.{next_twice}
 use Rattle.qs_machine.proofs.TableLaws.{lookup_each, total_each}
 
 none_taken : (role : Role) (s : Settings) (t : Tuning) (p : PeerLimits) → all_taken (new_end role s t p) ≡ 0
@@ -35,22 +35,14 @@ new_ends_settled role s t p e made = subst LimitsAreSettled (made_end (wide_setu
 
 -- a limit that was raised isn't raised again
 raised_stays : (k l : RecvLane) → raise k ≡ l → l.final_size ≡ None → next_limit l.limit (taken l) l.window l.share ≡ l.limit
-raised_stays k l is none =
-    ap (λ o. cond (is_some o) l.limit (next_limit l.limit (taken l) l.window l.share)) (sym none)
-    ∙ ap (λ (m : RecvLane). m.limit) (ap raise (sym is) ∙ raise_twice k ∙ is)
+raised_stays k l is none = grind arith
 
 found : (o : Option RecvLane) (l : RecvLane) → option_map raise o ≡ Some l → (k : RecvLane) × (raise k ≡ l)
 found None l is = absurd (none-some l is)
 found (Some k) l is = (k, same_Some (raise k) l is)
 
 settles : (e : End) → LimitsAreSettled (settle e)
-settles e =
-    record {
-      connection =
-          ap (λ t. next_limit (next_limit e.granted (all_taken e) e.present.conn_window e.tuning.credit_step) t e.present.conn_window e.tuning.credit_step) (total_each taken raise e.recvs (λ l. refl))
-          ∙ next_twice e.granted (all_taken e) e.present.conn_window e.tuning.credit_step;
-      streams = λ n l is none. (let (k, raised) = found (lookup e.recvs n) l (sym (lookup_each raise e.recvs n) ∙ is) in raised_stays k l raised none);
-    }
+settles e = grind (arith, nat_tests, total_each, next_twice, found, lookup_each, raised_stays)
 
 pub calls_settle : (old : End) (call : Call) (answer : Answer call) (new : End) → LimitsAreSettled old → EndStep old call answer new → LimitsAreSettled new
 calls_settle old call answer new h step = ends_by LimitsAreSettled old h settles (λ k p e is. record { connection = is.connection; streams = is.streams }) (record { connection = h.connection; streams = h.streams }) (λ c. record { connection = h.connection; streams = h.streams }) call answer new step

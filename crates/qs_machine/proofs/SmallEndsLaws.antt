@@ -1,5 +1,6 @@
 -- What is open, carried and acknowledged at small ends.
-use Rattle.std.proofs.Common.{◌≡◌, ℕ, zero, suc, ◌/◌, ◌%◌, [], ◌∷◌, slice_get, Bool, true, false, cond, Some, refl, sym, ap, ◌∙◌, subst, inl, inr}
+use Rattle.std.proofs.Common.{arith}
+use Rattle.std.proofs.Common.{◌≡◌, ℕ, ◌/◌, ◌%◌, [], ◌∷◌, slice_get, Bool, true, false, cond, Some, refl, sym, ap, ◌∙◌, subst, inl, inr}
 use Rattle.std.specs.FinMap as fmap
 use Rattle.std.specs.FinSet as set
 use Rattle.std.specs.Ordering.{nat_cmp, eq_by_cmp}
@@ -28,9 +29,7 @@ only_carried k p q (j, ps, is, among) = by_test (eq_by_cmp nat_cmp j k) (sym (fm
 
 -- where one stream is open, what is found is its part
 at_place : {X : Type 0} (x y : X) (k i : ℕ) → slice_get (table (only x) k) i ≡ Some y → y ≡ x
-at_place x y zero zero is = sym (same_Some x y is)
-at_place x y (suc (suc (suc k))) i is = absurd (none-some y is)
-at_place x y _ i is = absurd (none-some y is)
+at_place x y k i is = grind arith
 
 pub only_open : {X : Type 0} (x y : X) (n : ℕ) → lookup (only x) n ≡ Some y → y ≡ x
 unfolding lookup

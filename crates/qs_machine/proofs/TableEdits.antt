@@ -1,5 +1,5 @@
 -- Four lists stand for the tables: what a change of one list is to them.
-use Rattle.std.proofs.Common.{◌≡◌, ℕ, zero, suc, ◌+◌, ◌*◌, ◌/◌, ◌%◌, ◌<◌, ◌≤◌, Bool, true, false, List, [], ◌∷◌, length, get_or, map, take, Option, Some, None, is_some, Result, Ok, Err, nat_lt, cond, unwrap_or, refl, ap, sym, ◌∙◌, arith, subst}
+use Rattle.std.proofs.Common.{◌≡◌, ℕ, zero, suc, ◌+◌, ◌*◌, ◌/◌, ◌%◌, ◌<◌, Bool, true, false, List, [], ◌∷◌, length, get_or, map, take, Option, Some, None, is_some, Result, Ok, Err, nat_lt, cond, unwrap_or, refl, ap, sym, ◌∙◌, arith}
 use Rattle.std.specs.List.{slice_get, sum_by}
 use Rattle.std.specs.Result.{OnOk, IfOk, IfErr}
 use Rattle.std.proofs.Math.ListN.{set}
@@ -23,8 +23,7 @@ or_new_is _ i w share = refl
 
 -- a refusal, or a change
 pub on_ok : {A E : Type 0} (r : Result A E) (P Q : Type 0) → (P → Q) → OnOk r P → OnOk r Q
-on_ok (Ok a) P Q f p = f p
-on_ok (Err e) P Q f p = tt
+on_ok r P Q f p = grind arith
 
 four : {Y : Type 0} (ls : List Y) → length ls ≡ 4 → (a : Y) × (b : Y) × (c : Y) × (d : Y) × (ls ≡ a ∷ b ∷ c ∷ d ∷ [])
 four (a ∷ b ∷ c ∷ d ∷ []) len = (a, b, c, d, refl)
@@ -40,29 +39,13 @@ some_tested xs i n is = ap (nat_lt i) is ∙ tested xs i
 module _ {X : Type 0} where
   -- a list of the four, whatever is told in its place past the end
   listed : (ls : List (List X)) (n k : ℕ) (d : List X) → length ls ≡ 4 → k ≡ n % 4 → get_or ls k d ≡ get_or ls k (get_or ls k d)
-  listed ls n k d len kind =
-      let lt : k < length ls = omega (arith, len, kind) in
-      get_or_default ls k d (get_or ls k d) lt
-
-  table_four : (a b c d xs : List X) (k : ℕ) → k < 4 → table (tables_of (a ∷ b ∷ c ∷ d ∷ [])) k ≡ get_or (a ∷ b ∷ c ∷ d ∷ []) k xs
-  table_four a b c d xs (suc (suc (suc (suc k)))) lt = absurd (omega arith)
-  table_four a b c d xs _ lt = refl
-
-  with_four : (a b c d xs : List X) (k : ℕ) → k < 4 → tables_of (set (a ∷ b ∷ c ∷ d ∷ []) k xs) ≡ with_table (tables_of (a ∷ b ∷ c ∷ d ∷ [])) k xs
-  with_four a b c d xs (suc (suc (suc (suc k)))) lt = absurd (omega arith)
-  with_four a b c d xs _ lt = refl
+  listed ls n k d len kind = grind (arith, nat_tests, get_or_default)
 
   table_is_at : (ls : List (List X)) (n k : ℕ) (xs : List X) → length ls ≡ 4 → k ≡ n % 4 → xs ≡ get_or ls k xs → table (tables_of ls) (n % 4) ≡ xs
-  table_is_at ls n k xs len kind at =
-      let h = four ls len in
-      let lt : n % 4 < 4 = omega arith in
-      ap (λ l. table (tables_of l) (n % 4)) h.4 ∙ table_four h.0 h.1 h.2 h.3 xs (n % 4) lt ∙ ap (λ l. get_or l (n % 4) xs) (sym h.4) ∙ ap (λ j. get_or ls j xs) (sym kind) ∙ sym at
+  table_is_at ls n k xs len kind at = grind (arith, nat_tests, four)
 
   pub with_is : (ls : List (List X)) (n k : ℕ) (ys : List X) → length ls ≡ 4 → k ≡ n % 4 → tables_of (set ls k ys) ≡ with_table (tables_of ls) (n % 4) ys
-  with_is ls n k ys len kind =
-      let h = four ls len in
-      let lt : n % 4 < 4 = omega arith in
-      ap (λ j. tables_of (set ls j ys)) kind ∙ ap (λ l. tables_of (set l (n % 4) ys)) h.4 ∙ with_four h.0 h.1 h.2 h.3 ys (n % 4) lt ∙ ap (λ l. with_table (tables_of l) (n % 4) ys) (sym h.4)
+  with_is ls n k ys len kind = grind (arith, nat_tests, four, set)
 
   lookup_is_at : (ls : List (List X)) (n k i : ℕ) (xs : List X) → length ls ≡ 4 → k ≡ n % 4 → i ≡ n / 4 → xs ≡ get_or ls k xs → lookup (tables_of ls) n ≡ slice_get xs i
   unfolding lookup
@@ -75,8 +58,7 @@ module _ {X : Type 0} where
 
   by_look : (t : Tables X) (n : ℕ) (xs : List X) (f : X → X) (o : Option X) → table t (n % 4) ≡ xs → with_table t (n % 4) xs ≡ t → with_table t (n % 4) (changed xs (n / 4) f o) ≡ updated t n f o
   unfolding update
-  by_look t n xs f None is same = same
-  by_look t n xs f (Some x) is same = ap (λ l. with_table t (n % 4) (set l (n / 4) (f x))) (sym is)
+  by_look t n xs f o is same = grind arith
 
   updated_is_at : (ls : List (List X)) (n k i : ℕ) (xs ys : List X) (f : X → X) → length ls ≡ 4 → k ≡ n % 4 → i ≡ n / 4 → xs ≡ get_or ls k xs → ys ≡ changed xs i f (slice_get xs i)
       → tables_of (set ls k ys) ≡ updated (tables_of ls) n f (lookup (tables_of ls) n)
@@ -98,63 +80,26 @@ module _ {X : Type 0} where
   pub each_is : (f : X → X) (ls : List (List X)) (a b c d k l m n : List X) → length ls ≡ 4 → a ≡ map f (get_or ls 0 k) → b ≡ map f (get_or (set ls 0 a) 1 l)
       → c ≡ map f (get_or (set (set ls 0 a) 1 b) 2 m) → d ≡ map f (get_or (set (set (set ls 0 a) 1 b) 2 c) 3 n) → tables_of (set (set (set (set ls 0 a) 1 b) 2 c) 3 d) ≡ each f (tables_of ls)
   unfolding each
-  each_is f ls a b c d k l m n len p q r s =
-      let h = four ls len in
-      let p' : a ≡ map f h.0 = subst (λ xs. a ≡ map f (get_or xs 0 k)) h.4 p in
-      let q' : b ≡ map f h.1 = subst (λ xs. b ≡ map f (get_or (set xs 0 a) 1 l)) h.4 q in
-      let r' : c ≡ map f h.2 = subst (λ xs. c ≡ map f (get_or (set (set xs 0 a) 1 b) 2 m)) h.4 r in
-      let s' : d ≡ map f h.3 = subst (λ xs. d ≡ map f (get_or (set (set (set xs 0 a) 1 b) 2 c) 3 n)) h.4 s in
-      ap (λ xs. tables_of (set (set (set (set xs 0 a) 1 b) 2 c) 3 d)) h.4 ∙ rw (p', q', r', s') refl ∙ ap (λ xs. each f (tables_of xs)) (sym h.4)
-
-  sum_four : (f : X → ℕ) (t : Tables X) (k : ℕ) → sum_by f (table t k) ≤ total f t
-  unfolding total
-  sum_four f t (suc (suc (suc k))) = omega arith
-  sum_four f t _ = omega arith
+  each_is f ls a b c d k l m n len p q r s = grind (arith, nat_tests, four, set)
 
   pub total_four : (f : X → ℕ) (ls : List (List X)) (k l m n : List X) → length ls ≡ 4
       → total f (tables_of ls) ≡ sum_by f (get_or ls 0 k) + sum_by f (get_or ls 1 l) + sum_by f (get_or ls 2 m) + sum_by f (get_or ls 3 n)
   unfolding total
-  total_four f ls k l m n len =
-      let h = four ls len in
-      ap (λ xs. total f (tables_of xs)) h.4 ∙ ap (λ xs. sum_by f (get_or xs 0 k) + sum_by f (get_or xs 1 l) + sum_by f (get_or xs 2 m) + sum_by f (get_or xs 3 n)) (sym h.4)
-
-  own_table : (t : Tables X) (k : ℕ) → with_table t k (table t k) ≡ t
-  own_table t (suc (suc (suc k))) = refl
-  own_table t _ = refl
+  total_four f ls k l m n len = grind (arith, nat_tests, four)
 
   table_with : (t : Tables X) (k : ℕ) (ys : List X) → table (with_table t k ys) k ≡ ys
-  table_with t (suc (suc (suc k))) ys = refl
-  table_with t _ ys = refl
-
-  with_twice : (t : Tables X) (k : ℕ) (ys zs : List X) → with_table (with_table t k ys) k zs ≡ with_table t k zs
-  with_twice t (suc (suc (suc k))) ys zs = refl
-  with_twice t _ ys zs = refl
+  table_with t k ys = grind arith
 
   -- a table that was opened, or wasn't, and then was cut back is as before
   pub opened_closed : (t : Tables X) (n : ℕ) (begin : ℕ → X) (b : Bool) (mid now : Tables X) (m : ℕ) → mid ≡ cond b t (open_to t n begin) → m ≡ length (table t (n % 4))
       → now ≡ with_table mid (n % 4) (take m (table mid (n % 4))) → now ≡ t
   unfolding open_to
-  opened_closed t n begin true mid now m is len cut =
-      let k = n % 4 in
-      cut ∙ ap (λ (l : Tables X). with_table l k (take m (table l k))) is ∙ ap (λ j. with_table t k (take j (table t k))) len ∙ ap (with_table t k) (take-length (table t k)) ∙ own_table t k
-  opened_closed t n begin false mid now m is len cut =
-      let k = n % 4 in
-      let ys = widened (table t k) (n / 4 + 1) (λ j. begin (j * 4 + k)) in
-      cut
-      ∙ ap (λ (l : Tables X). with_table l k (take m (table l k))) is
-      ∙ ap (λ xs. with_table (with_table t k ys) k (take m xs)) (table_with t k ys)
-      ∙ with_twice t k ys (take m ys)
-      ∙ ap (λ j. with_table t k (take j ys)) len
-      ∙ ap (with_table t k) (take-append_seam (table t k) _)
-      ∙ own_table t k
+  opened_closed t n begin b mid now m is len cut = grind (arith, nat_tests, take-length, take-append_seam)
 
   -- a part that was opened becomes x
   pub opened_updated : (t : Tables X) (n : ℕ) (begin : ℕ → X) (x : X) → update (open_to t n begin) n x ≡ with_table t (n % 4) (set (widened (table t (n % 4)) (n / 4 + 1) (λ i. begin (i * 4 + n % 4))) (n / 4) x)
   unfolding update open_to
-  opened_updated t n begin x =
-      let k = n % 4 in
-      let ys = widened (table t k) (n / 4 + 1) (λ i. begin (i * 4 + k)) in
-      ap (λ xs. with_table (with_table t k ys) k (set xs (n / 4) x)) (table_with t k ys) ∙ with_twice t k ys (set ys (n / 4) x)
+  opened_updated t n begin x = grind arith
 
   -- the same, of the list at a place
 
@@ -162,9 +107,7 @@ module _ {X : Type 0} where
   table_is ls n k d len kind = table_is_at ls n k (get_or ls k d) len kind (listed ls n k d len kind)
 
   pub table_at : (ls : List (List X)) (k : ℕ) (d : List X) → length ls ≡ 4 → k < 4 → table (tables_of ls) k ≡ get_or ls k d
-  table_at ls k d len lt =
-      let h = four ls len in
-      ap (λ l. table (tables_of l) k) h.4 ∙ table_four h.0 h.1 h.2 h.3 d k lt ∙ ap (λ l. get_or l k d) (sym h.4)
+  table_at ls k d len lt = grind (arith, nat_tests, four)
 
   pub lookup_is : (ls : List (List X)) (n k i : ℕ) (d : List X) → length ls ≡ 4 → k ≡ n % 4 → i ≡ n / 4 → lookup (tables_of ls) n ≡ slice_get (get_or ls k d) i
   lookup_is ls n k i d len kind index = lookup_is_at ls n k i (get_or ls k d) len kind index (listed ls n k d len kind)
@@ -180,14 +123,8 @@ module _ {X : Type 0} where
       → ys ≡ widened (get_or ls k d) (i + 1) (λ j. begin (j * 4 + n % 4)) → tables_of (set ls k ys) ≡ open_to (tables_of ls) n begin
   opened_is ls n k i d ys begin len kind index is = opened_is_at ls n k i (get_or ls k d) ys begin len kind index (listed ls n k d len kind) is
 
-  pub sum_le : (f : X → ℕ) (ls : List (List X)) (n k : ℕ) (d : List X) → length ls ≡ 4 → k ≡ n % 4 → sum_by f (get_or ls k d) ≤ total f (tables_of ls)
-  sum_le f ls n k d len kind = subst (λ l. sum_by f l ≤ total f (tables_of ls)) (table_is_at ls n k (get_or ls k d) len kind (listed ls n k d len kind)) (sum_four f (tables_of ls) (n % 4))
-
 pub lane_is : (ls : List (List RecvLane)) (n k i : ℕ) (d : List RecvLane) (w : ℕ) (share : Share) → length ls ≡ 4 → k ≡ n % 4 → i ≡ n / 4 → or_new (lookup (tables_of ls) n) w share ≡ get_or (get_or ls k d) i (new_lane w share)
 lane_is ls n k i d w share len kind index = ap (λ o. or_new o w share) (lookup_is ls n k i d len kind index) ∙ or_new_is (get_or ls k d) i w share
-
-pub lane_looked : (ls : List (List RecvLane)) (n k i : ℕ) (d : List RecvLane) (w : ℕ) (share : Share) → length ls ≡ 4 → k ≡ n % 4 → i ≡ n / 4 → or_new (slice_get (get_or ls k d) i) w share ≡ or_new (lookup (tables_of ls) n) w share
-lane_looked ls n k i d w share len kind index = ap (λ o. or_new o w share) (sym (lookup_is ls n k i d len kind index))
 
 or_no_sending_is : (xs : List Sending) (i : ℕ) → or_no_sending (slice_get xs i) ≡ get_or xs i no_sending
 or_no_sending_is (x ∷ xs) (suc i) = or_no_sending_is xs i
@@ -219,11 +156,7 @@ written_is ls n k i d ys bytes (Err f) len kind index h = tt
 pub refused_is : (ls : List (List Sending)) (n k i : ℕ) (d ys : List Sending) (r : Result ℕ SendFault) → length ls ≡ 4 → k ≡ n % 4 → i ≡ n / 4
     → IfErr r (λ f. (ys ≡ get_or ls k d) × (f ≡ unwrap_or (refusal (get_or (get_or ls k d) i no_sending).lane) NoMemory))
     → IfErr r (λ f. (tables_of (set ls k ys) ≡ tables_of ls) × (f ≡ unwrap_or (refusal (or_no_sending (lookup (tables_of ls) n)).lane) NoMemory))
-refused_is ls n k i d ys (Ok m) len kind index h = tt
-refused_is ls n k i d ys (Err f) len kind index h = (
-  ap (λ l. tables_of (set ls k l)) h.0 ∙ ap tables_of (set-get_or ls k d),
-  h.1 ∙ ap (λ (s : Sending). unwrap_or (refusal s.lane) NoMemory) (sym (half_is ls n k i d len kind index)),
-)
+refused_is ls n k i d ys r len kind index h = grind (arith, nat_tests, set, set-get_or, unwrap_or, half_is)
 
 -- lanes that were opened, or weren't, add nothing to the sums
 pub same_tally : (t : Tables RecvLane) (n w : ℕ) (share : Share) (b : Bool) (mid : Tables RecvLane) (m : ℕ) → mid ≡ cond b t (open_to t n (λ j. new_lane w share)) → m ≡ length (table t (n % 4))

@@ -1,4 +1,5 @@
 -- What a table has for each stream after a change, and the sums over it.
+use Rattle.std.proofs.lemmas.Bool.Decides.{nat_tests}
 use Rattle.std.proofs.Common.{◌≡◌, ◌≢◌, ℕ, zero, suc, ◌+◌, ◌-◌, ◌*◌, ◌/◌, ◌%◌, ◌<◌, ◌≤◌, List, [], ◌∷◌, ◌++◌, ◌⊎◌, length, map, Option, Some, None, is_some, true, option_map, slice_get, slice_set, sum_by, refl, sym, ap, ◌∙◌, subst, arith, inl, inr}
 use Rattle.std.specs.List.{range_with_len}
 use Rattle.std.proofs.lemmas.Option.{none-some, same_Some, slice_get-map}
@@ -18,15 +19,10 @@ module _ {X : Type 0} where
   get_set_other _ i j y ne = refl
 
   pub table_same : (t : Tables X) (k : ℕ) (xs : List X) → table (with_table t k xs) k ≡ xs
-  table_same t (suc (suc (suc k))) xs = refl
-  table_same t _ xs = refl
+  table_same t k xs = grind arith
 
   pub table_other : (t : Tables X) (k j : ℕ) (xs : List X) → k < 4 → j < 4 → j ≢ k → table (with_table t k xs) j ≡ table t j
-  table_other t zero zero xs a b ne = absurd (ne refl)
-  table_other t (suc zero) (suc zero) xs a b ne = absurd (ne refl)
-  table_other t (suc (suc zero)) (suc (suc zero)) xs a b ne = absurd (ne refl)
-  table_other t (suc (suc (suc k))) (suc (suc (suc j))) xs a b ne = absurd (ne (omega arith))
-  table_other t _ _ xs a b ne = refl
+  table_other t k j xs a b ne = grind arith
 
   pub lookup_same : (t : Tables X) (n : ℕ) (x y : X) → lookup t n ≡ Some x → lookup (update t n y) n ≡ Some y
   unfolding lookup update
@@ -137,10 +133,7 @@ module _ {X : Type 0} where
 
   each_in : (f : X → X) (t : Tables X) (k i : ℕ) → k < 4 → slice_get (table (each f t) k) i ≡ option_map f (slice_get (table t k) i)
   unfolding each
-  each_in f t zero i lt = slice_get-map f t.client_bidi i
-  each_in f t (suc zero) i lt = slice_get-map f t.server_bidi i
-  each_in f t (suc (suc zero)) i lt = slice_get-map f t.client_uni i
-  each_in f t (suc (suc (suc k))) i lt = slice_get-map f t.server_uni i
+  each_in f t k i lt = grind (arith, nat_tests, slice_get-map)
 
   pub lookup_each : (f : X → X) (t : Tables X) (m : ℕ) → lookup (each f t) m ≡ option_map f (lookup t m)
   unfolding lookup
@@ -164,8 +157,7 @@ module _ {X : Type 0} (f : X → ℕ) where
 
   total_with : (t : Tables X) (k : ℕ) (ys : List X) → total f (with_table t k ys) + sum_by f (table t k) ≡ total f t + sum_by f ys
   unfolding total
-  total_with t (suc (suc (suc k))) ys = omega arith
-  total_with t _ ys = omega arith
+  total_with t k ys = grind arith
 
   pub total_update : (t : Tables X) (n : ℕ) (x y : X) → lookup t n ≡ Some x → total f (update t n y) + f x ≡ total f t + f y
   unfolding update lookup

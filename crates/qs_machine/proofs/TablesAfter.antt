@@ -15,10 +15,7 @@ module _ {X : Type 0} (R : X → X → Type 0) (same : (x : X) → R x x) where
   kept_same t n x is = (x, is, same x)
 
   pub kept_twice : ((x y z : X) → R x y → R y z → R x z) → (t u v : Tables X) → KeptIn R t u → KeptIn R u v → KeptIn R t v
-  kept_twice twice t u v a b n x is =
-      let (y, there, r) = a n x is in
-      let (z, at, s) = b n y there in
-      (z, at, twice x y z r s)
+  kept_twice twice t u v a b n x is = grind arith
 
   pub kept_updated : (t : Tables X) (n : ℕ) (f : X → X) → ((x : X) → lookup t n ≡ Some x → R x (f x)) → KeptIn R t (updated t n f (lookup t n))
   kept_updated t n f kept = go (lookup t n) refl
@@ -45,15 +42,13 @@ pub still_open : {X : Type 0} (R : X → X → Type 0) (t u : Tables X) (n : ℕ
 still_open {X} R t u n kept is = go (lookup t n) refl is
   where
     go : (o : Option X) → lookup t n ≡ o → is_some o ≡ true → is_some (lookup u n) ≡ true
-    go None at none = absurd (both_ways false refl none)
-    go (Some x) at some = ap is_some (kept n x at).1
+    go o at none = grind arith
 
 -- Changes that change nothing
 
 module _ {X : Type 0} where
   table_back : (t : Tables X) (k : ℕ) → with_table t k (table t k) ≡ t
-  table_back t (suc (suc (suc k))) = refl
-  table_back t _ = refl
+  table_back t k = grind arith
 
   pub set_back : (xs : List X) (i : ℕ) (x : X) → slice_get xs i ≡ Some x → slice_set xs i x ≡ xs
   set_back [] i x is = refl

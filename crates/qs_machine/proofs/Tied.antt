@@ -149,8 +149,7 @@ module _ (m : Records) (n : ℕ) (s : Sending) (t : IsTied m n s) where
   tied_finish law = finished_by law (is_some (refusal s.lane)) (λ none. not_finished s.lane.was_reset s.lane.finished none)
     where
       not_finished : (r : Option Reset) (fin : Bool) → is_some (cond (is_some r) (Some WasReset) (cond fin (Some Finished) None)) ≡ false → fin ≡ false
-      not_finished None false is = refl
-      not_finished _ fin is = absurd (both_ways true is refl)
+      not_finished r fin is = grind arith
 
   reset_by : (code : ℕ) (b : Bool)
       → IsTied m n (record {

@@ -1,10 +1,11 @@
 -- What ties all halves to the records: each call keeps it.
-use Rattle.std.proofs.Common.{◌≡◌, ◌≢◌, ℕ, zero, suc, ◌/◌, ◌%◌, Bool, true, false, List, [], ◌∷◌, take, slice_get, Option, Some, None, is_some, option_map, refl, sym, ap, ◌∙◌, subst, inl, inr}
+use Rattle.std.proofs.lemmas.Bool.Decides.{nat_tests}
+use Rattle.std.proofs.Common.{arith}
+use Rattle.std.proofs.Common.{◌≡◌, ◌≢◌, ℕ, zero, suc, ◌%◌, Bool, true, List, [], ◌∷◌, take, slice_get, Some, None, is_some, option_map, refl, sym, ap, ◌∙◌, subst, inl, inr}
 use Rattle.std.proofs.lemmas.Bool.{both_ways, cases_eq}
 use Rattle.std.specs.FinMap as fmap
 use Rattle.qs_send.specs.declared.parts.Chunk.{Chunk}
 use Rattle.qs_send.specs.declared.piece.Item.{Item}
-use Rattle.qs_send.specs.declared.piece.Item.TheVariants.{ResetStream}
 use Rattle.qs_send.specs.declared.piece.Piece.{Piece}
 use Rattle.qs_send.specs.declared.piece.Piece.TheVariants.{Data, Told}
 use Rattle.qs_send.specs.Lane.{SendLane, Sending, new_sending, after_sent, after_acked, after_lost}
@@ -13,7 +14,7 @@ use Rattle.qs_send.specs.Sound.{IsLawful}
 use Rattle.qs_send.proofs.Carrying.{carried-empty}
 use Rattle.qs_machine.specs.Tables.{Tables, table, with_table, lookup, update, open_to, no_streams}
 use Rattle.qs_machine.specs.Ends.{Records}
-use Rattle.qs_machine.specs.Outgoing.{IsCarried, IsTied, AreTied, AreApartIn, AreOfOpen, IsOfOpen, IsOfReset, lanes_of}
+use Rattle.qs_machine.specs.Outgoing.{IsCarried, IsTied, AreTied, AreApartIn, AreOfOpen, IsOfOpen, lanes_of}
 use Rattle.qs_machine.proofs.TableLaws.{lookup_same, lookup_other, lookup_open, with_other, with_same, lookup_in}
 use Rattle.qs_machine.proofs.Carried.{none_some, some_is, IsShorter, with_piece, carried_before, carried_is}
 use Rattle.qs_machine.proofs.Tied.{CarriesSame, tied_same, tied_new, tied_sent, tied_acked, tied_lost, other_put, other_gone, same_stream, not_told}
@@ -22,11 +23,7 @@ use Rattle.qs_machine.proofs.LaneTables.{lookup_lanes, lane_there, update_lanes,
 
 pub nowhere : {X : Type 0} (n : ℕ) → lookup (no_streams {X = X}) n ≡ None
 unfolding lookup
-nowhere n = go (n % 4)
-  where
-    go : {X : Type 0} (k : ℕ) → slice_get (table (no_streams {X = X}) k) (n / 4) ≡ None
-    go (suc (suc (suc k))) = refl
-    go _ = refl
+nowhere n = grind arith
 
 pub ties_none : AreTied no_streams fmap.empty
 ties_none =
@@ -42,18 +39,8 @@ ties_none =
 abbrev Grows : Tables SendLane → Tables SendLane → Type 0
 Grows t t' = (n : ℕ) (l : SendLane) → lookup t n ≡ Some l → (l' : SendLane) × (lookup t' n ≡ Some l') × (is_some l.was_reset ≡ true → is_some l'.was_reset ≡ true)
 
-grown_open : (t t' : Tables SendLane) (n : ℕ) → Grows t t' → (o : Option SendLane) → lookup t n ≡ o → is_some o ≡ true → is_some (lookup t' n) ≡ true
-grown_open t t' n grows None is some = absurd (both_ways true (sym some) refl)
-grown_open t t' n grows (Some l) is some = ap is_some (grows n l is).1
-
-grown_reset : (t t' : Tables SendLane) (n : ℕ) → Grows t t' → (o : Option SendLane) → lookup t n ≡ o → IsOfReset o → IsOfReset (lookup t' n)
-grown_reset t t' n grows None is r = absurd r
-grown_reset t t' n grows (Some l) is r = (let g = grows n l is in subst IsOfReset (sym g.1) (g.2 r))
-
 grown : (t t' : Tables SendLane) → Grows t t' → (p : Piece) → IsOfOpen t p → IsOfOpen t' p
-grown t t' grows (Data n c) h = grown_open t t' n grows (lookup t n) refl h
-grown t t' grows (Told (ResetStream n code size)) h = grown_reset t t' n grows (lookup t n) refl h
-grown t t' grows p h = tt
+grown t t' grows p h = grind arith
 
 grows_updated : (t : Tables SendLane) (n : ℕ) (l l' : SendLane) → lookup t n ≡ Some l → (is_some l.was_reset ≡ true → is_some l'.was_reset ≡ true) → Grows t (update t n l')
 grows_updated t n l l' there keeps k x is =
@@ -121,11 +108,7 @@ get_take (suc c) zero (y ∷ xs) x is = is
 get_take (suc c) (suc i) (y ∷ xs) x is = get_take c i xs x is
 
 pub closed_at : {X : Type 0} (t : Tables X) (n count k : ℕ) (x : X) → lookup (with_table t (n % 4) (take count (table t (n % 4)))) k ≡ Some x → lookup t k ≡ Some x
-closed_at t n count k x is =
-    elim (cases_eq (k % 4) (n % 4)) [
-      | inl e ↦ lookup_in t n k e ∙ get_take count (k / 4) (table t (n % 4)) x (sym (with_same t n k _ e) ∙ is)
-      | inr d ↦ sym (with_other t n k _ d) ∙ is
-    ]
+closed_at t n count k x is = grind (arith, nat_tests, cases_eq, lookup_in, get_take, with_same, with_other)
 
 pub ties_closed : (t : Tables Sending) (m : Records) (n count : ℕ) → AreTied t m → AreOfOpen (with_table (lanes_of t) (n % 4) (take count (table (lanes_of t) (n % 4)))) m
     → AreTied (with_table t (n % 4) (take count (table t (n % 4)))) m
@@ -164,8 +147,7 @@ ties_acked t m m' k n s c h short there =
     (λ r. r)
 
 still_reset : (s : Sending) (c : Chunk) (b : Bool) → is_some s.lane.was_reset ≡ b → is_some s.lane.was_reset ≡ true → is_some (after_lost s c).lane.was_reset ≡ true
-still_reset s c true is r = rw is (is)
-still_reset s c false is r = absurd (both_ways _ is r)
+still_reset s c b is r = grind arith
 
 pub ties_lost : (t : Tables Sending) (m m' : Records) (k n : ℕ) (s : Sending) (c : Chunk) → AreTied t m → IsShorter m k (Data n c) m' → lookup t n ≡ Some s → AreTied (update t n (after_lost s c)) m'
 ties_lost t m m' k n s c h short there =

@@ -1,31 +1,29 @@
 -- A payload that is processed is its frames, and one with an ACK is tokens and frames; and an ACK alone is a packet.
-use Rattle.std.proofs.Common.{◌≡◌, ℕ, Bool, true, false, List, [], ◌∷◌, ◌++◌, inl, Option, None, Some, Ok, refl, sym, ap, ◌∙◌, subst, append-nil, ◌≤◌, ◌||◌, ◌⊎◌, length, Err, arith, inr, ◌&&◌, cond, map, is_some}
-use Rattle.std.specs.Prelude.{MatchBool, Result, flat_map, ◌==◌, max}
+use Rattle.std.proofs.lemmas.Bool.Decides.{nat_tests}
+use Rattle.std.proofs.Common.{◌≡◌, ℕ, Bool, true, false, List, [], ◌∷◌, ◌++◌, inl, Option, None, Some, Ok, refl, sym, ap, ◌∙◌, subst, append-nil, ◌≤◌, ◌||◌, ◌⊎◌, length, arith, inr, cond, map, is_some}
+use Rattle.std.specs.Prelude.{MatchBool, Result, flat_map, max}
 use Rattle.std.specs.List.{AllByRecursion}
 use Rattle.std.proofs.lemmas.Bool.{false≢true, and_right, both_ways, or_parts}
-use Rattle.qs_wire.specs.Layout.{FrameValue, PlacedValue, ack}
+use Rattle.qs_wire.specs.Layout.{FrameValue, PlacedValue}
 use Rattle.qs_wire.specs.Grammar.{Fits, AreBytes}
 use Rattle.qs_wire.specs.Reading.{reading_of}
 use Rattle.qs_wire.specs.declared.fault.WireFault.{WireFault}
 use Rattle.qs_wire.proofs.FaultAgain.{bytes_fit}
 use Rattle.qs_wire.proofs.FitLaws.{frames_fit}
-use Rattle.qs_calls.specs.declared.closing.Closing.{Closing}
-use Rattle.qs_calls.specs.declared.closing.Received.{Received}
-use Rattle.qs_calls.specs.declared.closing.Received.TheVariants.{Done, NoMemory}
+use Rattle.qs_calls.specs.declared.closing.Received.TheVariants.{Done}
 use Rattle.qs_calls.specs.declared.token.Taken.{Taken}
-use Rattle.qs_calls.specs.declared.token.Taken.TheVariants.{Took, Unchanged, NotOurs}
+use Rattle.qs_calls.specs.declared.token.Taken.TheVariants.{NotOurs}
 use Rattle.qs_calls.specs.declared.token.TakeFault.{TakeFault}
-use Rattle.qs_machine.specs.Ends.{End, is_own, is_own_by, is_uni, opens, opened_by_peer, on_send, on_recv}
+use Rattle.qs_machine.specs.Ends.{End, opened_by_peer, on_recv}
 use Rattle.qs_machine.specs.Credit.{settle, ended, count_after, next_count}
-use Rattle.qs_machine.specs.Seen.{Seen, Ack, Stream, Control, Close, Plain, seen, seen_all, any_asks, asks_ack}
-use Rattle.qs_machine.specs.Verdicts.{verdict, item_verdict, state_fault_in, state_fault_out, or_else}
+use Rattle.qs_machine.specs.Seen.{Seen, Ack, Stream, Control, seen, seen_all, any_asks, asks_ack}
+use Rattle.qs_machine.specs.Verdicts.{verdict}
 use Rattle.qs_machine.specs.FrameStep.{NoFault, frame_taken, frames_taken, AckedPiece, acked_at, pieces_of, is_named, named_in, named, acks, item_taken}
 use Rattle.qs_machine.specs.Recording.{recorded}
-use Rattle.qs_machine.specs.Receiving.{ReceiveStep, ReceiveBy, Stops, EndsBy, GoesOn}
+use Rattle.qs_machine.specs.Receiving.{ReceiveStep, EndsBy, GoesOn}
 use Rattle.qs_machine.specs.Alone.{is_ours, TakesOne, TakesEach, TakeBy, TakeFrameStep, TakeFramesStep, TakeAllBy, of_both, after_one}
-use Rattle.qs_machine.specs.Changes.{changes}
 use Rattle.qs_machine.specs.Ways.{frames_in, IsNew, is_ack, HaveNoAck, AreOthers, APayloadIsTokensAndFrames}
-use Rattle.qs_machine.proofs.Again.{takes_prefix, seen_in, count_fault, count_stays, own_stays, uni_stays, first_goes, one_more, all_left}
+use Rattle.qs_machine.proofs.Again.{takes_prefix, seen_in, first_goes, one_more, all_left}
 use Rattle.qs_machine.proofs.EveryCall.{by_open}
 use Rattle.qs_machine.proofs.Changes.{frame_same, frame_differs}
 use Rattle.qs_calls.specs.declared.filling.Fill.{Fill}
@@ -34,7 +32,6 @@ use Rattle.qs_calls.specs.declared.making.Made.{Made}
 use Rattle.qs_calls.specs.declared.making.MakeFault.{MakeFault}
 use Rattle.qs_machine.specs.Lawful.{Lawful, IsInTurn}
 use Rattle.qs_machine.specs.Making.{NamesMost, IsMade, MakeAt, IsAckMade, MakeAckAt, make_refusal}
-use Rattle.qs_calls.specs.declared.making.MakeFault.TheVariants as making
 use Rattle.qs_machine.specs.Filling.{FillAt}
 use Rattle.qs_machine.specs.Laws.{AnAckIsAPacket, AFillIsAPacket, made_as}
 use Rattle.std.specs.FinSet as set
@@ -42,21 +39,19 @@ use Rattle.std.specs.FinMap as fmap
 use Rattle.std.specs.Ordering.{nat_cmp}
 use Rattle.qs_ranges.specs.Numbers.{numbers, missing_from}
 use Rattle.qs_ranges.proofs.Sets.{end_of-empty, missing_from-past, missing_from-with_later}
-use Rattle.qs_send.specs.Lane.{SendLane, unacked_from, acked_lane, broken_off, first_code, stop_taken, allow_lane}
+use Rattle.qs_send.specs.Lane.{SendLane, broken_off, first_code}
 use Rattle.qs_send.specs.declared.parts.SendFault.{SendFault}
 use Rattle.qs_send.specs.declared.parts.SendFault.TheVariants.{Finished}
 use Rattle.qs_send.specs.declared.piece.Piece.{Piece}
 use Rattle.qs_send.specs.declared.piece.Piece.TheVariants.{Data}
 use Rattle.qs_machine.specs.Tables.{lookup, update, each}
 use Rattle.qs_machine.specs.SmallEnds.{chunk}
-use Rattle.qs_machine.specs.AckOrders.{AStopIsntMoved, end_flying, end_sent, stop, is_reset}
+use Rattle.qs_machine.specs.AckOrders.{AStopIsntMoved, end_flying}
 use Rattle.qs_machine.proofs.Named.{filter_nothing}
-use Rattle.std.proofs.lemmas.Option.{none-some}
 use Rattle.qs_wire.specs.declared.stream_id.Dir.{Dir}
 use Rattle.qs_wire.specs.declared.stream_id.Dir.TheVariants.{Bidi, Uni}
-use Rattle.qs_recv.specs.Lane.{RecvLane, taken, raise, next_limit, take_stream, take_reset}
+use Rattle.qs_recv.specs.Lane.{RecvLane, taken, raise, next_limit, take_stream}
 use Rattle.qs_send.specs.declared.piece.Item.{Item}
-use Rattle.qs_send.specs.declared.piece.Item.TheVariants.{MaxStreamData, MaxStreams, ResetStream, StopSending, StreamDataBlocked}
 use Rattle.qs_machine.specs.Standing.{IsSound}
 use Rattle.qs_machine.specs.Repeats.{SentWasWritten}
 use Rattle.qs_machine.specs.SettledLimits.{LimitsAreSettled}
@@ -69,65 +64,33 @@ use Rattle.qs_machine.proofs.AckTokens.{same_tables, acks_moved, later_count, an
 
 -- A payload that is processed is its frames, and then its number.
 
-no_stop : (p : PlacedValue) (f : Seen) (e new : End) → Stops p f e (Ok Done) new → ⊥
-no_stop p (Close code) e new h = h
-no_stop p f e new h = h
-
 -- what ended so left no frame, and recorded the number
 all_left_of_payload : (k : ℕ) (fault : Option WireFault) (asks : Bool) (left : List PlacedValue) (e new : End) → EndsBy k fault asks left e (Ok Done) new → (left ≡ []) × (fault ≡ None) × (new ≡ recorded k asks e)
-all_left_of_payload k None asks [] e new h = (refl, refl, h)
-all_left_of_payload k (Some fault) asks [] e new h = absurd h
-all_left_of_payload k fault asks (p ∷ ps) e new h = absurd (no_stop p (seen p.frame) e new h)
+all_left_of_payload k fault asks left e new h = grind arith
 
 pub payload_frames : (old new : End) (k : ℕ) (text : List ℕ) → IsNew old k → ReceiveStep old k text (Ok Done) new
     → NoFault old (seen_all (frames_in text)) × ((reading_of text).fault ≡ None) × (new ≡ recorded k (any_asks (seen_all (frames_in text))) (settle (frames_taken (seen_all (frames_in text)) old)))
-payload_frames old new k text fresh step =
-    by_open _ k text old (Ok Done) new (subst (λ o. ReceiveBy o k text old (Ok Done) new) fresh.unclosed step)
-    (λ below same. absurd (false≢true (sym (ap is_done below))))
-    (λ again same. absurd (false≢true (sym (ap is_done again))))
-    (λ high mid takes is. (
-    let (taken, left, parts, fine, ends) = takes_prefix k (reading_of text).fault false old (reading_of text).left (Ok Done) mid takes in
-    let (none, faultless, kept) = all_left_of_payload k (reading_of text).fault _ left _ mid ends in
-    let whole : (reading_of text).left ≡ taken = parts ∙ ap (λ x. taken ++ x) none ∙ append-nil taken in (
-      subst (λ ps. NoFault old (seen_in ps)) (sym whole) fine,
-      faultless,
-      is ∙ ap settle kept ∙ ap (λ ps. recorded k (any_asks (seen_in ps)) (settle (frames_taken (seen_in ps) old))) (sym whole),
-    )
-    ))
-  where
-    is_done : Result Received Closing → Bool
-    is_done (Ok Done) = true
-    is_done r = false
+payload_frames old new k text fresh step = grind (arith, nat_tests, by_open, false≢true, takes_prefix, all_left_of_payload, append-nil, seen_in)
 
 -- Frames that are taken one after the other
 
 first_fine : (e : End) (f : Seen) (fs : List Seen) → is_ours f ≡ true → NoFault e (f ∷ fs) → (verdict e f ≡ None) × NoFault (frame_taken f e) fs
-first_fine e (Close code) fs ours h = absurd (false≢true ours)
-first_fine e _ fs ours h = h
+first_fine e f fs ours h = grind arith
 
 -- a frame of another kind changes nothing, but for an ACK
 pub other_fine : (e : End) (f : Seen) (fs : List Seen) → is_ours f ≡ false → is_ack f ≡ false → NoFault e (f ∷ fs) → NoFault e fs × (frame_taken f e ≡ e)
 unfolding frame_taken
-other_fine e (Ack largest ranges) fs other none h = absurd (false≢true (sym none))
-other_fine e (Close code) fs other none h = absurd h
-other_fine e (Plain asks) fs other none h = (h.1, refl)
-other_fine e _ fs other none h = absurd (false≢true (sym other))
+other_fine e f fs other none h = grind arith
 
 pick : (X Y : Type 0) (b : Bool) → b ≡ true → X → MatchBool b X Y
-pick X Y true is x = x
-pick X Y false is x = absurd (false≢true is)
+pick X Y b is x = grind arith
 
 pub pass_by : (X Y : Type 0) (b : Bool) → b ≡ false → Y → MatchBool b X Y
-pass_by X Y true is y = absurd (false≢true (sym is))
-pass_by X Y false is y = y
+pass_by X Y b is y = grind arith
 
 -- a frame without a fault is taken, and something changed or nothing did
 takes_one : (e : End) (f : FrameValue) → is_ours (seen f) ≡ true → Fits f → verdict e (seen f) ≡ None → (one : Taken) × TakesOne e f (Ok one) (frame_taken (seen f) e)
-takes_one e f ours fits first = go (changes e (seen f)) refl
-  where
-    go : (b : Bool) → changes e (seen f) ≡ b → (one : Taken) × TakesOne e f (Ok one) (frame_taken (seen f) e)
-    go true some = (Took, ((fits, first), refl, frame_differs (seen f) e first some))
-    go false none = (Unchanged, ((fits, first), refl, frame_same (seen f) e ours first none))
+takes_one e f ours fits first = grind (arith, nat_tests, frame_differs, frame_same)
 
 pub takes_each : (fs : List FrameValue) (e : End) → HaveNoAck fs → AllByRecursion Fits fs → NoFault e (seen_all fs) → (taken : Taken) × TakesEach fs e (Ok taken) (frames_taken (seen_all fs) e)
 unfolding frames_taken
@@ -163,9 +126,7 @@ payload_take_frames old new k text fresh bytes none step =
 -- a frame that is the payload
 
 ours_ask : (f : Seen) → is_ours f ≡ true → any_asks (f ∷ []) ≡ true
-ours_ask (Stream n offset bytes fin) ours = refl
-ours_ask (Control item) ours = refl
-ours_ask _ ours = absurd (false≢true ours)
+ours_ask f ours = grind arith
 
 pub frame_take : (old new : End) (k : ℕ) (text : List ℕ) (f : FrameValue) → IsNew old k → AreBytes text → frames_in text ≡ f ∷ [] → is_ours (seen f) ≡ true → ReceiveStep old k text (Ok Done) new
     → (taken : Taken) × (mid : End) × TakeFrameStep old f (Ok taken) mid × (new ≡ recorded k true mid)
@@ -187,10 +148,7 @@ frame_take old new k text f fresh bytes one ours step =
 
 -- an ACK that is too long for a room is too long for a shorter one
 names_most : (old : End) (delay room less : ℕ) (frame : FrameValue) → less ≤ room → NamesMost old delay room frame → NamesMost old delay less frame
-names_most old delay room less (ack largest told ranges ecn) le (inl all) = inl all
-names_most old delay room less (ack largest told ranges ecn) le (inr next) =
-    inr (record { gap = next.gap; len = next.len; fits = next.fits; may = next.may; too_long = omega (arith, le, next.too_long) })
-names_most old delay room less frame le h = h
+names_most old delay room less frame le h = grind arith
 
 ack_made : (old new : End) (first delay room : ℕ) (made : Made) (text : List ℕ) → IsAckMade old delay room made text new → IsMade old first delay (length text) made text new
 ack_made old new first delay room made text h =
@@ -211,21 +169,14 @@ ack_made old new first delay room made text h =
 
 ack_at : (o : Option MakeFault) (old new : End) (first delay room : ℕ) (answer : Result (Option Made) MakeFault) (text : List ℕ) → MakeAckAt o old delay room answer text new →
     MakeAt o old first delay (length text) answer text new ⊎ ((answer ≡ Ok None) × (text ≡ []) × (new ≡ old))
-ack_at (Some fault) old new first delay room answer text h = inl h
-ack_at None old new first delay room (Ok (Some made)) text h = inl (ack_made old new first delay room made text h)
-ack_at None old new first delay room (Ok None) text h = inr (refl, h.1, h.2)
-ack_at None old new first delay room (Err fault) text h = absurd h
+ack_at o old new first delay room answer text h = grind (arith, nat_tests, ack_made)
 
 pub ack_packet : AnAckIsAPacket
 ack_packet old new first delay room answer text step = ack_at (make_refusal old) old new first delay room answer text step
 
 fill_at : (o : Option MakeFault) (old new : End) (want : Fill) (room : ℕ) (answer : Result (Option Filled) MakeFault) (text : List ℕ) → FillAt o old want room answer text new →
     MakeAt o old want.first 0 (length text) (made_as answer) text new ⊎ (new ≡ old)
-fill_at (Some fault) old new want room answer text h = inr h.2
-fill_at None old new want room (Ok (Some filled)) text h = inl h.made
-fill_at None old new want room (Ok None) text h = inr h.2
-fill_at None old new want room (Err making.NoMemory) text h = inr h.2
-fill_at None old new want room (Err fault) text h = absurd h
+fill_at o old new want room answer text h = grind arith
 
 pub fill_packet : AFillIsAPacket
 fill_packet old new want room answer text step = fill_at (make_refusal old) old new want room answer text step
@@ -259,31 +210,17 @@ stopped all l = cond (is_some {T = SendFault} (cond all (Some Finished) None)) l
 
 pub order_stays : AStopIsntMoved
 unfolding frame_taken frames_taken lookup update acks
-order_stays =
-    record {
-      ack_first =
-          ap (λ ps. is_reset (frame_taken stop (acks ps end_flying))) taken_before
-          ∙ ap (λ k. is_some (stopped ((k == 0) && true) (acked_lane end_sent (chunk 0 0 true))).was_reset) whole;
-      stop_first = ap (λ ps. is_reset (acks ps (frame_taken stop end_flying))) taken_before ∙ ap (λ b. is_some (stopped b end_sent).was_reset) (and_right (unacked_from end_sent == 0) false refl);
-    }
+order_stays = grind (arith, nat_tests, taken_before, whole, and_right)
 
 -- A payload with an ACK is the tokens of the ACK's packets, then its other frames, and then its number.
 
 -- Limits that are settled don't move
 
 unraised : (l : RecvLane) → (l.final_size ≡ None → next_limit l.limit (taken l) l.window l.share ≡ l.limit) → raise l ≡ l
-unraised l settled = ap (λ k. record l { limit = k }) (go l.final_size refl)
-  where
-    go : (o : Option ℕ) → l.final_size ≡ o → cond (is_some o) l.limit (next_limit l.limit (taken l) l.window l.share) ≡ l.limit
-    go None is = settled is
-    go (Some size) is = refl
+unraised l settled = grind arith
 
 all_unraised : (e : End) → LimitsAreSettled e → each raise e.recvs ≡ e.recvs
-all_unraised e settled = same_tables _ _ (λ n. lookup_each raise e.recvs n ∙ go n (lookup e.recvs n) refl)
-  where
-    go : (n : ℕ) (o : Option RecvLane) → lookup e.recvs n ≡ o → elim o [ None ↦ None | Some l ↦ Some (raise l) ] ≡ o
-    go n None is = refl
-    go n (Some l) is = ap (λ k. Some k) (unraised l (settled.streams n l is))
+all_unraised e settled = grind (arith, nat_tests, same_tables, lookup_each, unraised)
 
 -- the end with other counts of granted streams
 abbrev counted : ℕ → ℕ → End → End
@@ -297,19 +234,10 @@ only_counts e settled = λ i. record e { recvs = all_unraised e settled i; grant
 
 module _ (b u : ℕ) where
   opened_counted : (n : ℕ) (e : End) → opened_by_peer n (counted b u e) ≡ counted b u (opened_by_peer n e)
-  opened_counted n e = go (is_own e n)
-    where
-      go : (c : Bool) → cond c (counted b u e) (opens n (counted b u e)) ≡ counted b u (cond c e (opens n e))
-      go true = refl
-      go false = refl
+  opened_counted n e = grind arith
 
   item_counted : (i : Item) (e : End) → item_taken i (counted b u e) ≡ counted b u (item_taken i e)
-  item_counted (MaxStreamData n m) e = ap (on_send n (λ l. allow_lane l m)) (opened_counted n e)
-  item_counted (MaxStreams Uni m) e = refl
-  item_counted (ResetStream n code size) e = ap (on_recv n (λ l. take_reset l code size)) (opened_counted n e)
-  item_counted (StopSending n code) e = ap (on_send n (λ l. stop_taken e.tuning.answers_stops l code)) (opened_counted n e)
-  item_counted (StreamDataBlocked n m) e = opened_counted n e
-  item_counted i e = refl
+  item_counted i e = grind arith
 
   frame_counted : (f : Seen) (e : End) → frame_taken f (counted b u e) ≡ counted b u (frame_taken f e)
   unfolding frame_taken
@@ -328,43 +256,12 @@ module _ (b u : ℕ) where
     bidi : e.granted_bidi ≤ b
     uni : e.granted_uni ≤ u
 
-  in_counted : (n : ℕ) (e : End) → AreMore e → state_fault_in e n ≡ None → state_fault_in (counted b u e) n ≡ None
-  in_counted n e more h =
-      own_stays (is_own_by e.role n) (count_fault e.granted_bidi e.granted_uni n) (count_fault b u n) (lookup e.recvs n) (lookup e.recvs n) (λ is. is)
-      (count_stays e.granted_bidi e.granted_uni b u n more.bidi more.uni) h
-
-  out_counted : (n : ℕ) (e : End) → AreMore e → state_fault_out e n ≡ None → state_fault_out (counted b u e) n ≡ None
-  out_counted n e more h =
-      let few = count_fault e.granted_bidi e.granted_uni n in
-      let many = count_fault b u n in
-      own_stays (is_own_by e.role n) (cond (is_uni n) (Some 0x05) few) (cond (is_uni n) (Some 0x05) many) (lookup e.sends n) (lookup e.sends n) (λ is. is)
-      (uni_stays (is_uni n) few many (count_stays e.granted_bidi e.granted_uni b u n more.bidi more.uni)) h
-
-  or_none : (first now next : Option ℕ) → (first ≡ None → now ≡ None) → or_else first next ≡ None → or_else now next ≡ None
-  or_none None now next none h = subst (λ o. or_else o next ≡ None) (sym (none refl)) h
-  or_none (Some code) now next none h = absurd (none-some code (sym h))
-
-  item_fine : (i : Item) (e : End) → AreMore e → item_verdict e i ≡ None → item_verdict (counted b u e) i ≡ None
-  item_fine (MaxStreamData n m) e more h = out_counted n e more h
-  item_fine (ResetStream n code size) e more h = or_none (state_fault_in e n) (state_fault_in (counted b u e) n) _ (in_counted n e more) h
-  item_fine (StopSending n code) e more h = out_counted n e more h
-  item_fine (StreamDataBlocked n m) e more h = in_counted n e more h
-  item_fine i e more h = refl
-
   goes_counted : (f : Seen) (e : End) → AreMore e → GoesOn e f → GoesOn (counted b u e) f
   unfolding verdict
-  goes_counted (Stream n offset bytes fin) e more h = or_none (state_fault_in e n) (state_fault_in (counted b u e) n) _ (in_counted n e more) h
-  goes_counted (Control i) e more h = item_fine i e more h
-  goes_counted (Plain asks) e more h = refl
-  goes_counted _ e more h = h
+  goes_counted f e more h = grind (arith, nat_tests)
 
   still_more : (f : Seen) (e : End) → AreMore e → AreMore (frame_taken f e)
-  still_more f e more =
-      let same = ap (λ (x : End). x.granted_bidi) (frame_leaves f e) in
-      let alike = ap (λ (x : End). x.granted_uni) (frame_leaves f e) in
-      let bidi = more.bidi in
-      let uni = more.uni in
-      record { bidi = omega (arith, same, bidi); uni = omega (arith, alike, uni) }
+  still_more f e more = grind (arith, nat_tests, frame_leaves)
 
   fine_counted : (fs : List Seen) (e : End) → AreMore e → NoFault e fs → NoFault (counted b u e) fs
   fine_counted [] e more h = tt

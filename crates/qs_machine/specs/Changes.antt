@@ -1,6 +1,6 @@
 -- Of private contracts.
 -- Whether a frame of streams or of flow control that has no fault changes an end (RFC 9000, sections 3 and 19).
-use Rattle.std.specs.Prelude.{ℕ, Bool, true, false, not, ◌&&◌, ◌||◌, length, Option, None, Some, is_some, is_none, nat_lt}
+use Rattle.std.specs.Prelude.{ℕ, Bool, false, not, ◌&&◌, ◌||◌, length, Option, None, Some, is_some, is_none, nat_lt}
 use Rattle.qs_wire.specs.declared.stream_id.Dir.TheVariants.{Bidi, Uni}
 use Rattle.qs_recv.specs.Lane.{RecvLane, is_whole}
 use Rattle.qs_recv.specs.Changes.{stream_changes}
@@ -9,7 +9,7 @@ use Rattle.qs_send.specs.Changes.{changes_by_stop}
 use Rattle.qs_send.specs.declared.piece.Item.{Item}
 use Rattle.qs_send.specs.declared.piece.Item.TheVariants.{MaxData, MaxStreamData, MaxStreams, ResetStream, StopSending, DataBlocked, StreamDataBlocked, StreamsBlocked}
 use Rattle.qs_machine.specs.Ends.{End, is_own, is_uni, send_lane, recv_lane}
-use Rattle.qs_machine.specs.Seen.{Seen, Ack, Stream, Control, Close, Plain}
+use Rattle.qs_machine.specs.Seen.{Seen, Stream, Control}
 
 -- the stream is the peer's, and a half of it isn't open yet
 abbrev pub is_yet_to_open : End → ℕ → Bool

@@ -1,6 +1,6 @@
 -- Of laws.
 -- How a frame isn't taken alone, and what isn't told by tokens (RFC 9000, sections 10.2, 11.1, 13.1, 13.3 and 20.1).
-use Rattle.std.specs.Prelude.{◌≡◌, ℕ, ◌+◌, ◌^◌, false, List, [], ◌∷◌, None, Some, Result, Ok, Err}
+use Rattle.std.specs.Prelude.{◌≡◌, ℕ, ◌+◌, ◌^◌, false, [], ◌∷◌, None, Some, Result, Ok, Err}
 use Rattle.std.specs.FinMap as fmap
 use Rattle.qs_wire.specs.Layout.{FrameValue, stream, max_data, ack, ping, connection_close}
 use Rattle.qs_send.specs.Records.{IsCarried}
@@ -18,7 +18,7 @@ use Rattle.qs_machine.specs.Alone.{TakesOne, TakesEach, TakeFrameStep, TakeFrame
 use Rattle.qs_machine.specs.Examples.{letters}
 use Rattle.qs_machine.specs.SmallEnds.{chunk, four_made}
 use Rattle.qs_machine.specs.ExclusionsReceiving.{ten}
-use Rattle.qs_machine.specs.ExclusionsMaking.{one_flying, two_flying}
+use Rattle.qs_machine.specs.ExclusionsMaking.{two_flying}
 
 -- of stream 0 four bytes, eleven, and one that lies past the largest offset that has a text
 abbrev pub four_bytes : FrameValue

@@ -1,9 +1,9 @@
 -- Of laws.
 -- What is no news, and what an owner didn't hear by it (RFC 9000, sections 2.2 to 2.4, 3 and 4).
-use Rattle.std.specs.Prelude.{◌≡◌, ℕ, true, false, [], ◌∷◌, Option, None, Some, Ok, Err}
+use Rattle.std.specs.Prelude.{true, false, [], ◌∷◌, None, Some, Ok, Err}
 use Rattle.qs_ranges.specs.declared.NoMemory.{NoMemory}
-use Rattle.qs_wire.specs.declared.stream_id.Dir.TheVariants.{Bidi, Uni}
-use Rattle.qs_calls.specs.declared.news.News.TheVariants.{Opened, Readable, Writable, Stopped, Finished, ResetAcked, Ended, Available, DataBlocked}
+use Rattle.qs_wire.specs.declared.stream_id.Dir.TheVariants.{Bidi}
+use Rattle.qs_calls.specs.declared.news.News.TheVariants.{Opened, Readable, Writable, Stopped, Finished, ResetAcked, Available, DataBlocked}
 use Rattle.qs_recv.specs.Lane.{RecvLane}
 use Rattle.qs_send.specs.declared.piece.Item.TheVariants as items
 use Rattle.qs_machine.specs.Seen.{Control}

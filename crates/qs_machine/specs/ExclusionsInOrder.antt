@@ -11,7 +11,7 @@ use Rattle.qs_machine.specs.Ends.{End}
 use Rattle.qs_machine.specs.Lawful.{pieces_so_far}
 use Rattle.qs_machine.specs.InOrder.{NothingStarves}
 use Rattle.qs_machine.specs.Examples.{standard, server}
-use Rattle.qs_machine.specs.SmallEnds.{client_with, server_with, chunk, wrote, reset_half, fresh, owing, only}
+use Rattle.qs_machine.specs.SmallEnds.{client_with, server_with, chunk, reset_half, fresh, owing, only}
 use Rattle.qs_machine.specs.ExclusionsMaking.{two_due}
 
 -- no packet of the end holds these pieces

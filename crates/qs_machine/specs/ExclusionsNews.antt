@@ -1,6 +1,6 @@
 -- Of laws.
 -- Which streams no search among them answers (RFC 9000, sections 2.2, 2.4, 3 and 13.3).
-use Rattle.std.specs.Prelude.{◌≡◌, ℕ, ◌≤◌, true, None, Some}
+use Rattle.std.specs.Prelude.{◌≡◌, ◌≤◌, true, None, Some}
 use Rattle.qs_recv.specs.Lane.{stop, stop_and_discard}
 use Rattle.qs_machine.specs.News.{IsLeast, IsReadable, IsSendable, IsWritable, IsEnded}
 use Rattle.qs_machine.specs.SmallEnds.{client_with, server_with, begun, wrote, finished, reset_half, fresh, three_came, all_came}

@@ -1,6 +1,6 @@
 -- Of public contracts.
 -- What an end tells its owner of by itself, and what the owner heard of so far (RFC 9000, sections 2.2 to 2.4, 3 and 4, for the whole file).
-use Rattle.std.specs.Prelude.{◌≡◌, ℕ, ◌+◌, ◌*◌, ◌<◌, Bool, true, false, ◌&&◌, ◌⊎◌, Option, None, Some, Result, Ok, Err, is_some, nat_le, nat_lt, unwrap_or, if◌then◌else◌, MatchBool}
+use Rattle.std.specs.Prelude.{◌≡◌, ℕ, ◌+◌, ◌<◌, Bool, true, false, ◌&&◌, ◌⊎◌, Option, None, Some, Result, Ok, Err, is_some, nat_le, nat_lt, unwrap_or, if◌then◌else◌, MatchBool}
 use Rattle.qs_ranges.specs.declared.NoMemory.{NoMemory}
 use Rattle.qs_wire.specs.Streams.{dir_of}
 use Rattle.qs_wire.specs.declared.stream_id.Dir.{Dir}

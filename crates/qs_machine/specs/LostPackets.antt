@@ -3,7 +3,7 @@
 --     LostPackets        the pieces of the packets by number, and the order of their declaring
 --     lost_with k p l    packet k is lost with one piece more
 --     lost_less k l      the lost packet k lost its first piece
-use Rattle.std.specs.Prelude.{ℕ, List, [], if◌then◌else◌, refl}
+use Rattle.std.specs.Prelude.{ℕ, List, [], if◌then◌else◌}
 use Rattle.std.specs.FinMap as fmap
 use Rattle.qs_send.specs.declared.piece.Piece.{Piece}
 use Rattle.qs_send.specs.Records.{PacketPieces, without_first}

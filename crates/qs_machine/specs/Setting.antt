@@ -6,7 +6,7 @@ use Rattle.std.specs.Prelude.{◌≡◌, ℕ, ◌+◌, Bool, not, nat_le, nat_lt
 use Rattle.qs_wire.specs.declared.stream_id.Dir.{Dir}
 use Rattle.qs_wire.specs.declared.stream_id.Dir.TheVariants.{Bidi, Uni}
 use Rattle.qs_recv.specs.Lane.{MAX_CONN_WINDOW, MAX_WINDOW, limit_with, set_window}
-use Rattle.qs_send.specs.Lane.{SendLane, buffer_lane}
+use Rattle.qs_send.specs.Lane.{buffer_lane}
 use Rattle.qs_calls.specs.declared.settings.SetFault.{SetFault}
 use Rattle.qs_calls.specs.declared.settings.SetFault.TheVariants as setting
 use Rattle.qs_calls.specs.Settings.{is_between, MAX_GRANT}

@@ -10,7 +10,7 @@ use Rattle.qs_recv.specs.Lawful.{IsLawful}
 use Rattle.qs_calls.specs.declared.settings.Settings.{Settings}
 use Rattle.qs_calls.specs.Settings.{MAX_GRANT, are_in_wide_range}
 use Rattle.qs_machine.specs.Tables.{Tables, lookup, total}
-use Rattle.qs_machine.specs.Ends.{End, Present, first_window_by, first_window, recv_lane}
+use Rattle.qs_machine.specs.Ends.{End, Present, first_window_by, recv_lane}
 use Rattle.qs_machine.specs.Credit.{spent, all_taken, all_stored, granted_streams, lifetime, next_count}
 
 -- a receiving half that is open is lawful, and its widest window is no narrower than the one of its type of stream
