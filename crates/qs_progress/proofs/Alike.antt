@@ -1,20 +1,19 @@
 -- Sending halves that differ in what is acknowledged of them alone, and ends that differ in their records.
-use Rattle.std.proofs.Common.{◌≡◌, ℕ, ◌+◌, Bool, true, List, [], ◌∷◌, Option, Some, None, refl, sym, ap, ◌∙◌, subst}
+use Rattle.std.proofs.lemmas.Bool.Decides.{nat_tests}
+use Rattle.std.proofs.Common.{arith}
+use Rattle.std.proofs.Common.{◌≡◌, ℕ, Bool, List, [], ◌∷◌, Option, Some, None, refl, sym, ap, subst}
 use Rattle.std.specs.Prelude.{⊤}
 use Rattle.std.specs.FinSet as set
 use Rattle.std.proofs.lemmas.Bool.{or_left}
 use Rattle.qs_ranges.specs.Numbers.{NumberSet, contains-with_range}
-use Rattle.qs_wire.specs.declared.stream_id.Dir.TheVariants.{Uni}
-use Rattle.qs_send.specs.Lane.{SendLane, acked_lane, reset_acked_lane}
-use Rattle.qs_send.specs.declared.piece.Item.TheVariants.{MaxStreams, ResetStream, StreamsBlocked}
+use Rattle.qs_send.specs.Lane.{SendLane}
 use Rattle.qs_send.specs.declared.piece.Piece.{Piece}
-use Rattle.qs_send.specs.declared.piece.Piece.TheVariants.{Data, Told}
 use Rattle.qs_machine.specs.Tables.{Tables, lookup, updated}
 use Rattle.qs_machine.specs.Ends.{End}
 use Rattle.qs_machine.specs.FrameStep.{AckedPiece, acks, first_acked, piece_acked, without_piece}
 use Rattle.qs_machine.proofs.TableLaws.{slots_updated}
 use Rattle.qs_machine.proofs.Leaves.{but_sending, acks_leave}
-use Rattle.qs_progress.proofs.Outstanding.{AcksStay, stay_same, stay_twice}
+use Rattle.qs_progress.proofs.Outstanding.{AcksStay, stay_same}
 
 -- an end without its sending halves, its records and what it acknowledged
 abbrev pub but_records : End → End
@@ -36,8 +35,7 @@ alike_same : (l : SendLane) → Alike l l
 alike_same l = alike_by l l.kept l.acked l.fin_acked l.reset_acked (stay_same l)
 
 alike_twice : (l m k : SendLane) → Alike l m → Alike m k → Alike l k
-alike_twice l m k a b =
-    record { written = b.written ∙ a.written; sent_end = b.sent_end ∙ a.sent_end; finished = b.finished ∙ a.finished; was_reset = b.was_reset ∙ a.was_reset; stopped = b.stopped ∙ a.stopped; limit = b.limit ∙ a.limit; acks = stay_twice l m k a.acks b.acks }
+alike_twice l m k a b = grind (arith, nat_tests)
 
 -- Tables
 
@@ -92,12 +90,7 @@ slots_edited t n f alike = go (lookup t n) refl
 -- Acknowledgements
 
 pub alike_piece : (p : Piece) (e : End) → SendsAlike e.sends (piece_acked p e).sends
-alike_piece (Data n c) e =
-    slots_edited e.sends n (λ l. acked_lane l c) (λ l. alike_by l _ _ _ l.reset_acked (λ q is. contains-with_range l.acked c.offset (c.offset + c.len) q ∙ or_left _ _ is, λ is. or_left l.fin_acked c.fin is, λ is. is))
-alike_piece (Told (ResetStream n code size)) e = slots_edited e.sends n reset_acked_lane (λ l. alike_by l l.kept l.acked l.fin_acked true (λ q is. is, λ is. is, λ is. refl))
-alike_piece (Told (MaxStreams Uni m)) e = slots_same e.sends
-alike_piece (Told (StreamsBlocked Uni m)) e = slots_same e.sends
-alike_piece (Told i) e = slots_same e.sends
+alike_piece p e = grind (arith, nat_tests, slots_edited, alike_by, contains-with_range, or_left, slots_same)
 
 pub alike_acks : (ps : List AckedPiece) (e : End) → SendsAlike e.sends (acks ps e).sends
 unfolding acks

@@ -1,6 +1,6 @@
 -- What two ends did and know for good is bounded, by the bytes that were written, the streams that were opened, and what was granted beyond.
-use Rattle.std.proofs.Common.{◌≡◌, ℕ, zero, suc, ◌+◌, ◌*◌, ◌-◌, ◌/◌, ◌%◌, ◌<◌, ◌≤◌, Bool, true, false, not, ◌||◌, cond, List, [], ◌∷◌, length, slice_get, sum_by, Option, Some, None, is_some, refl, sym, ap, ◌∙◌, subst, arith, inl, inr, nat_cmp, if◌then◌else◌}
-use Rattle.std.specs.Prelude.{unwrap_or, zip, nat_le, ◌==◌}
+use Rattle.std.proofs.Common.{◌≡◌, ℕ, zero, suc, ◌+◌, ◌*◌, ◌-◌, ◌%◌, ◌<◌, ◌≤◌, Bool, true, false, not, ◌||◌, List, [], ◌∷◌, length, slice_get, sum_by, Option, Some, None, is_some, refl, sym, ap, ◌∙◌, subst, arith, inl, inr, nat_cmp, if◌then◌else◌}
+use Rattle.std.specs.Prelude.{unwrap_or, zip, ◌==◌}
 use Rattle.std.specs.List.{range_with_len, filter}
 use Rattle.std.specs.FinSet as set
 use Rattle.std.specs.Cmp.{nat_cmp_total, unsigned_tied}
@@ -19,14 +19,13 @@ use Rattle.qs_recv.specs.Lawful.{IsLawful}
 use Rattle.qs_send.specs.Lane.{SendLane}
 use Rattle.qs_send.specs.declared.piece.Piece.{Piece}
 use Rattle.qs_send.specs.declared.piece.Piece.TheVariants.{Data, Told}
-use Rattle.qs_send.specs.declared.piece.Item.{Item}
 use Rattle.qs_send.specs.declared.piece.Item.TheVariants.{MaxData, MaxStreamData, MaxStreams, ResetStream, StopSending, DataBlocked, StreamDataBlocked, StreamsBlocked}
 use Rattle.qs_calls.specs.declared.settings.Settings.{Settings}
 use Rattle.qs_calls.specs.declared.event.Side.{Side}
 use Rattle.qs_calls.specs.declared.event.Side.TheVariants.{A, B}
 use Rattle.qs_machine.specs.Tables.{Tables, table, lookup, total}
 use Rattle.qs_machine.specs.Ends.{End, AckedItems, is_uni, is_own, role_bit, peer_type, first_send_limit, first_window}
-use Rattle.qs_machine.specs.Credit.{granted_streams, first_grant, all_taken, recv_ended, both_ended, ended}
+use Rattle.qs_machine.specs.Credit.{granted_streams, first_grant, all_taken, ended}
 use Rattle.qs_machine.specs.Due.{known_count}
 use Rattle.qs_machine.specs.Seen.{Control}
 use Rattle.qs_machine.specs.Standing.{HasLawfulLane}
@@ -46,13 +45,12 @@ use Rattle.qs_progress.specs.Outstanding.{IsIn}
 use Rattle.qs_progress.proofs.Sums.{le_same, sum_grows, told_few}
 use Rattle.qs_progress.proofs.Alike.{SendsAlike, slots_same, alike_back}
 use Rattle.qs_progress.proofs.Facts.{Offset, Gives, facts_step}
-use Rattle.qs_progress.proofs.Ahead.{with_acks, out_of, out_in, ahead, alike_all, all_leave}
+use Rattle.qs_progress.proofs.Ahead.{with_acks, out_of, out_in, ahead, alike_ahead}
 
 -- Sets and lists
 
 one_most : (b : Bool) → one_if b ≤ 1
-one_most true = omega arith
-one_most false = omega arith
+one_most b = grind (arith, nat_tests)
 
 len_numbers : (n : ℕ) → set.len (numbers 0 n) ≤ n
 len_numbers zero =
@@ -79,10 +77,7 @@ len_below s n below =
     omega (arith, few, len_numbers n)
 
 end_below : (s : NumberSet) (n : ℕ) → ((q : ℕ) → set.contains s q ≡ true → q < n) → end_of_set s ≤ n
-end_below s n below = elim (end_of-last s) [
-  | inl none ↦ omega (arith, none)
-  | inr last ↦ (let lt = below (end_of_set s - 1) last in omega (arith, lt))
-]
+end_below s n below = grind (arith, nat_tests, end_of-last)
 
 sums_few : (t f g o x y : ℕ → ℕ) (lo k : ℕ) → ((i : ℕ) → t i ≤ 6 * f i + 6 * g i + 17 * o i + 3 * x i + 3 * y i)
     → sum_by t (range_with_len lo k) ≤ 6 * sum_by f (range_with_len lo k) + 6 * sum_by g (range_with_len lo k) + 17 * sum_by o (range_with_len lo k) + 3 * sum_by x (range_with_len lo k) + 3 * sum_by y (range_with_len lo k)
@@ -134,19 +129,13 @@ kind_of k i lt = omega arith
 
 pub lookup_at : {X : Type 0} (t : Tables X) (k i : ℕ) → k < 4 → lookup t (i * 4 + k) ≡ slice_get (table t k) i
 unfolding lookup
-lookup_at t k i lt =
-    let index : (i * 4 + k) / 4 ≡ i = omega arith in
-    λ j. slice_get (table t (kind_of k i lt j)) (index j)
+lookup_at t k i lt = grind (arith, nat_tests)
 
 window_at : (e : End) (k i : ℕ) → k < 4 → first_window e (i * 4 + k) ≡ first_window e k
-window_at e k i lt =
-    let small : k % 4 ≡ k = omega arith in
-    let same : (i * 4 + k) % 4 ≡ k % 4 = kind_of k i lt ∙ sym small in
-    λ j. cond (nat_le 2 (same j)) e.settings.uni (cond (same j % 2 == role_bit e.role) e.settings.bidi_local e.settings.bidi_remote)
+window_at e k i lt = grind (arith, nat_tests)
 
 first_of : (u b : Bool) (x y z : ℕ) → (if u then x else (if not b then y else z)) ≡ (if u then x else (if b then z else y))
-first_of false true x y z = refl
-first_of _ b x y z = refl
+first_of u b x y z = grind (arith, nat_tests)
 
 -- One direction: side s sends, the other one receives
 
@@ -233,10 +222,7 @@ module _ (a b : Settings) (h : History) (w : World) (ok : WorldOk a b h w) (told
 
     -- what came was written
     came_below : (n : ℕ) (r : RecvLane) → lookup there.recvs n ≡ Some r → (q : ℕ) → set.contains r.arrived.received q ≡ true → q < bytes n
-    came_below n r is q came =
-        let (l, at, lt) = received_is_below_sent a b h w ok s n r q is came in
-        let same : bytes n ≡ l.written = ap (value (λ (x : SendLane). x.written)) at in
-        omega (arith, lt, (send_at n l at).sent_written, same)
+    came_below n r is q came = grind (arith, nat_tests, received_is_below_sent, value)
 
     read_below : (n : ℕ) (r : RecvLane) → lookup there.recvs n ≡ Some r → r.arrived.read_count ≤ bytes n
     read_below n r is = go r.arrived.read_count refl
@@ -293,17 +279,13 @@ module _ (a b : Settings) (h : History) (w : World) (ok : WorldOk a b h w) (told
 
     -- the part of the marks that this side knows, and the part that the other one was told
     known_credit : (here.known_data - here.peer.max_data) + told_from here.peer.max_data here.known_data (is_done (acks.items s) (DataBlocked here.known_data)) ≤ 2 * (there.granted - there.settings.conn_window) + 1
-    known_credit =
-        let first : here.peer.max_data ≡ there.settings.conn_window = ap (λ x. x.max_data) (told s) in
-        omega (arith, first, (known_is_within_granted a b h w ok s).connection, told_few here.peer.max_data here.known_data (is_done (acks.items s) (DataBlocked here.known_data)))
+    known_credit = grind (arith, nat_tests, known_is_within_granted, told_few)
 
     known_within : (d : Dir) → known_count here d ≤ granted_streams there d
-    known_within Bidi = (known_counts a b h w ok s).0
-    known_within Uni = (known_counts a b h w ok s).1
+    known_within d = grind (arith, nat_tests, known_counts)
 
     first_count_is : (d : Dir) → first_count here.peer d ≡ first_grant there.settings d
-    first_count_is Bidi = ap (λ x. x.streams_bidi) (told s)
-    first_count_is Uni = ap (λ x. x.streams_uni) (told s)
+    first_count_is d = grind (arith, nat_tests)
 
     known_streams : (d : Dir) → (known_count here d - first_count here.peer d) + told_from (first_count here.peer d) (known_count here d) (is_done (acks.items s) (StreamsBlocked d (known_count here d))) ≤ 2 * (granted_streams there d - first_grant there.settings d) + 1
     known_streams d = omega (arith, first_count_is d, known_within d, told_few (first_count here.peer d) (known_count here d) (is_done (acks.items s) (StreamsBlocked d (known_count here d))))
@@ -311,9 +293,7 @@ module _ (a b : Settings) (h : History) (w : World) (ok : WorldOk a b h w) (told
   -- Of one stream: what its owner opened bounds which halves are open
 
   open_few : {X Y : Type 0} (x : Option X) (y : Option Y) → (is_some y ≡ true → is_some x ≡ true) → value (λ (z : Y). 1) y ≤ value (λ (z : X). 1) x
-  open_few x None more = omega arith
-  open_few None (Some y) more = absurd (true≢false (sym (more refl)))
-  open_few (Some x) (Some y) more = omega arith
+  open_few x y more = grind (arith, nat_tests)
 
   -- the four halves of a stream that side s opened, where e is that end and f the other one
   abbrev HasFew : End → End → ℕ → Type 0
@@ -336,18 +316,10 @@ module _ (a b : Settings) (h : History) (w : World) (ok : WorldOk a b h w) (told
 
   -- a stream is one's own or the peer's
   none_own : (e : End) (n : ℕ) → is_own e n ≡ true → value (λ (r : RecvLane). one_if (not (is_own e n))) (lookup e.recvs n) ≡ 0
-  none_own e n own = go (lookup e.recvs n)
-    where
-      go : (o : Option RecvLane) → value (λ (r : RecvLane). one_if (not (is_own e n))) o ≡ 0
-      go None = refl
-      go (Some r) = ap (λ b. one_if (not b)) own
+  none_own e n own = grind (arith, nat_tests)
 
   one_peer : (e : End) (n : ℕ) → value (λ (r : RecvLane). one_if (not (is_own e n))) (lookup e.recvs n) ≤ value (λ (r : RecvLane). 1) (lookup e.recvs n)
-  one_peer e n = go (lookup e.recvs n)
-    where
-      go : (o : Option RecvLane) → value (λ (r : RecvLane). one_if (not (is_own e n))) o ≤ value (λ (r : RecvLane). 1) o
-      go None = omega arith
-      go (Some r) = one_most (not (is_own e n))
+  one_peer e n = grind (arith, nat_tests)
 
   module _ (n : ℕ) where
     abbrev both_marks : ℕ
@@ -431,15 +403,10 @@ module _ (a b : Settings) (h : History) (w : World) (ok : WorldOk a b h w) (told
       opened B n own is = is_open_at_initiator a b h w ok A n (inr is) own
 
   ended_bidi : (e : End) (k : ℕ) → peer_type e Bidi ≡ k → ended e Bidi ≤ length (table e.recvs k)
-  ended_bidi e k is =
-      let zipped = zip (table e.recvs (peer_type e Bidi)) (table e.sends (peer_type e Bidi)) in
-      let same : length (table e.recvs (peer_type e Bidi)) ≡ length (table e.recvs k) = ap (λ j. length (table e.recvs j)) is in
-      omega (arith, length_filter both_ended zipped, length_zip (table e.recvs (peer_type e Bidi)) (table e.sends (peer_type e Bidi)), same)
+  ended_bidi e k is = grind (arith, nat_tests, length_filter, length_zip)
 
   ended_uni : (e : End) (k : ℕ) → peer_type e Uni ≡ k → ended e Uni ≤ length (table e.recvs k)
-  ended_uni e k is =
-      let same : length (table e.recvs (peer_type e Uni)) ≡ length (table e.recvs k) = ap (λ j. length (table e.recvs j)) is in
-      omega (arith, length_filter recv_ended (table e.recvs (peer_type e Uni)), same)
+  ended_uni e k is = grind (arith, nat_tests, length_filter)
 
   streams_a : streams_at w.a ≡ length (table w.a.sends 0) + length (table w.a.sends 2)
   streams_a = λ j. length (table w.a.sends (role_bit (role_a j))) + length (table w.a.sends (2 + role_bit (role_a j)))
@@ -594,7 +561,7 @@ is_below a b h w run told =
 ahead_written : (a b : Settings) (h : History) (w : World) → WorldOk a b h w → (s : Side) (n : ℕ) (k : SendLane) → lookup (ahead (end_of w s)).sends n ≡ Some k → (q : ℕ) → set.contains k.acked q ≡ true → q < k.written
 ahead_written a b h w ok s n k at q is =
     let e = end_of w s in
-    let (l, was, like) = alike_back e.sends (ahead e).sends (alike_all (out_of e) e) n k at in
+    let (l, was, like) = alike_back e.sends (ahead e).sends (alike_ahead e) n k at in
     let same = like.written in
     elim (facts_step (out_of e) e (Offset n q) (k, at, is)) [
       | inl (m, there, acked) ↦ (
@@ -614,6 +581,4 @@ ahead_written a b h w ok s n k at q is =
 pub ahead_below : (a b : Settings) (h : History) (w : World) → Run a b h w → ((s : Side) → KnowsFirstLimits w s) → score (ahead w.a) + score (ahead w.b) ≤ most w
 ahead_below a b h w run told =
     let ok = run_keeps a b h w run in
-    subst (λ x. score x + score (ahead w.b) ≤ most w) (sym (all_leave (out_of w.a) w.a))
-    (subst (λ y. score (with_acks (ahead w.a).sends (ahead w.a).acked w.a) + score y ≤ most w) (sym (all_leave (out_of w.b) w.b))
-    (score_few a b h w ok told (record { sends = λ s. (ahead (end_of w s)).sends; items = λ s. (ahead (end_of w s)).acked; alike = λ s. alike_all (out_of (end_of w s)) (end_of w s); written = ahead_written a b h w ok })))
+    score_few a b h w ok told (record { sends = λ s. (ahead (end_of w s)).sends; items = λ s. (ahead (end_of w s)).acked; alike = λ s. alike_ahead (end_of w s); written = ahead_written a b h w ok })

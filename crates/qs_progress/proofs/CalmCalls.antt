@@ -1,14 +1,13 @@
 -- What calm calls are made of: frames that take effect, packets that are made, and reads.
-use Rattle.std.proofs.Common.{◌≡◌, ℕ, ◌+◌, ◌*◌, Bool, true, false, List, [], ◌∷◌, ◌⊎◌, take, Option, Some, None, is_some, refl, sym, subst, inl, inr, arith}
-use Rattle.std.specs.Prelude.{MatchBool, Result, Ok, Err, not, ◌&&◌, nat_eq, nat_lt, nat_le}
+use Rattle.std.proofs.Common.{◌≡◌, ℕ, ◌+◌, ◌*◌, Bool, true, false, List, [], ◌∷◌, ◌⊎◌, take, Option, Some, None, refl, sym, subst, inl, inr, arith}
+use Rattle.std.specs.Prelude.{MatchBool, Result, Ok, Err}
 use Rattle.std.proofs.lemmas.Bool.{false≢true}
 use Rattle.std.proofs.lemmas.Bool.Decides.{nat_tests}
-use Rattle.std.proofs.lemmas.Option.{none-some}
 use Rattle.qs_wire.specs.Layout.{FrameValue, PlacedValue}
 use Rattle.qs_wire.specs.Reading.{reading_of}
 use Rattle.qs_wire.specs.declared.fault.WireFault.{WireFault}
 use Rattle.qs_wire.specs.declared.stream_id.Dir.{Dir}
-use Rattle.qs_wire.specs.declared.stream_id.Dir.TheVariants.{Bidi, Uni}
+use Rattle.qs_wire.specs.declared.stream_id.Dir.TheVariants.{Uni}
 use Rattle.qs_recv.specs.Lane.{after_read}
 use Rattle.qs_recv.specs.declared.half.Read.{Read}
 use Rattle.qs_calls.specs.declared.closing.Closed.{Closed}
@@ -26,7 +25,6 @@ use Rattle.qs_calls.specs.declared.token.Taken.TheVariants as taken
 use Rattle.qs_calls.specs.declared.token.TakeFault.{TakeFault}
 use Rattle.qs_calls.specs.declared.token.TakeFault.TheVariants as faults
 use Rattle.qs_calls.specs.declared.token.Token.{Token}
-use Rattle.qs_calls.specs.declared.token.TokenFault.TheVariants as tokens
 use Rattle.qs_calls.specs.declared.uses.UseFault.{UseFault}
 use Rattle.qs_machine.specs.Ends.{End, on_recv, closes, peer_type}
 use Rattle.qs_machine.specs.Credit.{settle}
@@ -39,7 +37,7 @@ use Rattle.qs_machine.specs.Receiving.{ReceiveBy, EndsBy, AtEnd, RunsOut}
 use Rattle.qs_machine.specs.Making.{MakeAt, MakeAckAt, make_refusal, claim_refusal}
 use Rattle.qs_machine.specs.Filling.{FillAt}
 use Rattle.qs_machine.specs.Alone.{is_ours, TakesOne, TakeBy, TakesEach, TakeAllBy, token_refusal, only, after_one, TokenAckedStep}
-use Rattle.qs_machine.specs.Owner.{AcceptStep, AcceptOfStep, AcceptOpen, AcceptOpenOf, GivesNone, GivesBidi, GivesUni, ReadBy, recv_refusal, is_read_no_more, first_refusal, refuse_if}
+use Rattle.qs_machine.specs.Owner.{AcceptStep, AcceptOfStep, AcceptOpen, AcceptOpenOf, GivesNone, GivesBidi, GivesUni, ReadBy, recv_refusal, is_read_no_more}
 use Rattle.qs_machine.specs.EndStep.{Call, Answer, EndStep, Open, Accept, AcceptOf, Write, Finish, Reset, Stop, StopAndDiscard, ReadUpTo, Consume, Receive, TakeFrame, TakeFrames, TokenAcked, TokenLost, Make, MakeAck, FillIn, Lose, Claim, RaiseLimits, Set, NoteClosed}
 use Rattle.qs_machine.proofs.EveryCall.{by_refusal, if_allowed, by_test, stops_by, by_open, closed_same}
 use Rattle.qs_machine.proofs.Again.{seen_in, takes_prefix}
@@ -65,8 +63,7 @@ pub record Forms (old : End) (P : End → Type 0) : Type 0 where
 -- Frames
 
 runs_out : (f : Seen) (e new : End) → RunsOut e f new → Ends e new
-runs_out (Ack largest ranges) e new (count, is, asks) = inr (inr (inr (count, ranges, is)))
-runs_out f e new out = inl out.0
+runs_out f e new h = grind (arith, nat_tests)
 
 at_end : (number : ℕ) (asks : Bool) (fault : Option WireFault) (e : End) (result : Result Received Closing) (new : End) → AtEnd number asks fault e result new → Ends e new
 at_end number asks None e (Ok received.Done) new is = inr (inr (inl (number, asks, is)))
@@ -115,15 +112,7 @@ takes_each (f ∷ fs) e answer new h = by (is_ours (seen f)) refl h (λ mid late
 -- an ACK of a packet whose token was given is no fault
 given_fine : (e : End) (t : Token) → token_refusal e t ≡ None → verdict e (only t) ≡ None
 unfolding verdict
-given_fine e t allowed = (let made : nat_le e.next t.number ≡ false = go (is_some e.closed) (nat_eq t.epoch e.tuning.epoch) (nat_le t.first t.number) allowed in rw made refl)
-  where
-    by : (made : Bool) → refuse_if (not made) tokens.NotGiven ≡ None → made ≡ true
-    by true h = refl
-    by false h = absurd (none-some _ (sym h))
-
-    go : (closed own ordered : Bool) → first_refusal (refuse_if closed tokens.Closed) (refuse_if (not (own && (ordered && nat_lt t.number e.next))) tokens.NotGiven) ≡ None → nat_le e.next t.number ≡ false
-    go false true true h = grind (arith, nat_tests, (by (nat_lt t.number e.next) h))
-    go _ own ordered h = absurd (none-some _ (sym h))
+given_fine e t allowed = grind (arith, nat_tests)
 
 module _ (old : End) (P : End → Type 0) (c : Forms old P) where
   stays : (new : End) → new ≡ old → P new
@@ -145,8 +134,7 @@ module _ (old : End) (P : End → Type 0) (c : Forms old P) where
   take_by None f answer new step = by (is_ours (seen f)) refl step
     where
       by : (b : Bool) → is_ours (seen f) ≡ b → MatchBool b ((mid : End) × TakesOne old f answer mid × (new ≡ settle mid)) ((answer ≡ Ok taken.NotOurs) × (new ≡ old)) → P new
-      by true ours (mid, takes, is) = led mid new (takes_one old f answer mid ours takes) is
-      by false other passed = stays new passed.1
+      by b ours h = grind (arith, nat_tests, takes_one)
 
   take_all_by : (o : Option Closed) (fs : List FrameValue) (answer : Result Taken TakeFault) (new : End) → TakeAllBy o fs old answer new → P new
   take_all_by (Some closed) fs answer new step = stays new step.1
@@ -202,8 +190,7 @@ module _ (old : End) (P : End → Type 0) (c : Forms old P) where
   accept_of_by d answer new step = by_test (P new) _ (GivesNone old answer new) (AcceptOpenOf old d answer new) step (λ none. stays new none.1) (go d)
     where
       go : (d : Dir) → AcceptOpenOf old d answer new → P new
-      go Bidi goes = by_test (P new) _ (GivesBidi old answer new) (GivesNone old answer new) goes (gives_bidi answer new) (λ none. stays new none.1)
-      go Uni goes = gives_uni answer new goes
+      go d goes = grind (arith, nat_tests)
 
   read_by : (r : Option UseFault) (n size : ℕ) (answer : Result Read UseFault) (bytes : List ℕ) (new : End) → ReadBy r old n size answer bytes new → P new
   read_by (Some fault) n size answer bytes new step = stays new step.2

@@ -1,22 +1,16 @@
 -- Rest comes by rounds: from the end of A's turn to the end of its next turn, where the round between doesn't begin at rest, something is
 -- done for good.
-use Rattle.std.proofs.Common.{◌≡◌, ℕ, ◌+◌, ◌<◌, ◌≤◌, Bool, true, false, List, [], ◌∷◌, ◌++◌, ◌⊎◌, Option, Some, None, refl, sym, ap, ◌∙◌, subst, arith, inl, inr}
-use Rattle.std.specs.Prelude.{⊤, Result}
+use Rattle.std.proofs.lemmas.Bool.Decides.{nat_tests}
+use Rattle.std.proofs.Common.{◌≡◌, ℕ, ◌+◌, ◌<◌, ◌≤◌, Bool, true, false, List, [], ◌∷◌, ◌++◌, ◌⊎◌, refl, sym, ap, ◌∙◌, subst, arith, inl, inr}
+use Rattle.std.specs.Prelude.{⊤}
 use Rattle.std.specs.FinSet as set
-use Rattle.std.proofs.lemmas.Bool.{cases_lt}
-use Rattle.qs_recv.specs.Lane.{after_read}
-use Rattle.qs_recv.specs.declared.half.Read.{Read}
 use Rattle.qs_send.specs.Records.{Among}
 use Rattle.qs_send.specs.declared.piece.Piece.{Piece}
 use Rattle.qs_calls.specs.declared.event.Side.{Side}
 use Rattle.qs_calls.specs.declared.event.Side.TheVariants.{A, B}
 use Rattle.qs_calls.specs.declared.settings.Settings.{Settings}
-use Rattle.qs_calls.specs.declared.uses.UseFault.{UseFault}
-use Rattle.qs_machine.specs.Ends.{End, on_recv}
-use Rattle.qs_machine.specs.Credit.{settle}
-use Rattle.qs_machine.specs.Owner.{ReadBy, recv_refusal, is_read_no_more}
-use Rattle.qs_machine.specs.EndStep.{Call, Answer, EndStep, ReadUpTo, Consume}
-use Rattle.qs_machine.proofs.EveryCall.{by_refusal}
+use Rattle.qs_machine.specs.Ends.{End}
+use Rattle.qs_machine.specs.EndStep.{Call, Answer, EndStep}
 use Rattle.qs_runs.specs.Logs.{other}
 use Rattle.qs_runs.specs.Worlds.{end_of}
 use Rattle.qs_runs.proofs.Histories.{two_sides}
@@ -45,21 +39,11 @@ lasts_same e = (refl, refl, refl)
 lasts_as : (e f g : End) → Lasts e f → g ≡ f → Lasts e g
 lasts_as e f g lasts is = subst (Lasts e) (sym is) lasts
 
-read_by : (r : Option UseFault) (e : End) (n size : ℕ) (answer : Result Read UseFault) (bytes : List ℕ) (f : End) → ReadBy r e n size answer bytes f → Lasts e f
-read_by (Some fault) e n size answer bytes f step = lasts_as e e f (lasts_same e) step.2
-read_by None e n size answer bytes f (l, at, told, given, is) = lasts_as e (settle (on_recv n (λ m. after_read m size) e)) f (refl, refl, refl) is
-
 read_lasts : (call : Call) (e : End) (answer : Answer call) (f : End) → IsRead call → EndStep e call answer f → Lasts e f
-read_lasts (ReadUpTo n size) e answer f reads step = read_by (recv_refusal (is_read_no_more e) e n) e n size answer.0 answer.1 f step
-read_lasts (Consume n most) e answer f reads step =
-    by_refusal (Lasts e f) (recv_refusal (is_read_no_more e) e n) e answer.0 f _ step.0 (lasts_as e e f (lasts_same e))
-    (λ (l, at, told, is). lasts_as e (settle (on_recv n (λ m. after_read m 0) (on_recv n (λ m. after_read m most) e))) f (refl, refl, refl) is)
-read_lasts call e answer f reads step = absurd reads
+read_lasts call e answer f reads step = grind (arith, nat_tests)
 
 pub read_calm : (call : Call) → IsRead call → IsCalm call
-read_calm (ReadUpTo n size) reads = tt
-read_calm (Consume n most) reads = tt
-read_calm call reads = absurd reads
+read_calm call reads = grind (arith, nat_tests)
 
 reads_last : (ms : List Moment) (old new : Moment) → Trail IsRead old ms new → (s : Side) → Lasts (end_of old.ends s) (end_of new.ends s)
 reads_last [] old new is s = subst (λ (m : Moment). Lasts (end_of old.ends s) (end_of m.ends s)) (sym is) (lasts_same (end_of old.ends s))

@@ -1,21 +1,15 @@
 -- What each step of a round adds to what is done, and to what would be once all that is outstanding is acknowledged.
-use Rattle.std.proofs.Common.{◌≡◌, ℕ, suc, ◌+◌, ◌-◌, ◌<◌, ◌≤◌, Bool, true, false, not, ◌&&◌, cond, nat_cmp, List, [], ◌∷◌, ◌⊎◌, length, Option, Some, None, is_some, refl, sym, ap, ◌∙◌, subst, arith, inl, inr}
-use Rattle.std.specs.Prelude.{Result, Ok, Err}
-use Rattle.std.specs.FinMap as fmap
-use Rattle.std.specs.FinSet as set
-use Rattle.std.specs.Cmp.{nat_cmp_total}
-use Rattle.std.proofs.lemmas.Bool.{cases_lt, true≢false, false≢true, and_parts}
-use Rattle.std.proofs.lemmas.Option.{none-some, same_Some}
-use Rattle.qs_recv.specs.Lane.{RecvLane, after_read, after_answer, read_answer, raise}
+use Rattle.std.proofs.lemmas.Bool.Decides.{nat_tests}
+use Rattle.std.proofs.Common.{arith}
+use Rattle.std.proofs.Common.{◌≡◌, ℕ, suc, ◌+◌, ◌<◌, ◌≤◌, Bool, true, false, List, ◌⊎◌, Option, Some, None, is_some, refl, sym, ap, ◌∙◌, subst, inl, inr}
+use Rattle.std.specs.Prelude.{Result, Ok}
+use Rattle.std.proofs.lemmas.Bool.{cases_lt}
+use Rattle.qs_recv.specs.Lane.{RecvLane, after_read, raise}
 use Rattle.qs_recv.specs.Lawful.{IsLawful}
-use Rattle.qs_recv.specs.News.{is_readable, tells_something}
 use Rattle.qs_recv.specs.declared.half.Read.{Read}
-use Rattle.qs_recv.specs.declared.half.Read.TheVariants as reads
-use Rattle.qs_send.specs.Records.{Among}
 use Rattle.qs_send.specs.declared.piece.Piece.{Piece}
 use Rattle.qs_calls.specs.declared.settings.Settings.{Settings}
 use Rattle.qs_calls.specs.declared.event.Side.{Side}
-use Rattle.qs_calls.specs.declared.event.Side.TheVariants.{A, B}
 use Rattle.qs_calls.specs.declared.making.Made.{Made}
 use Rattle.qs_calls.specs.declared.uses.UseFault.{UseFault}
 use Rattle.qs_calls.specs.declared.uses.UseFault.TheVariants as uses
@@ -25,11 +19,11 @@ use Rattle.qs_machine.specs.Credit.{settle}
 use Rattle.qs_machine.specs.Making.{IsMade, make_refusal}
 use Rattle.qs_machine.specs.Owner.{ReadBy, recv_refusal, is_read_no_more, first_refusal, refuse_if, no_half}
 use Rattle.qs_machine.specs.News.{IsReadable}
-use Rattle.qs_machine.specs.EndStep.{Call, Make, ReadUpTo}
+use Rattle.qs_machine.specs.EndStep.{Make, ReadUpTo}
 use Rattle.qs_machine.proofs.EachHalf.{sends_kept}
 use Rattle.qs_machine.proofs.EndsAfter.{lawful_in}
 use Rattle.qs_runs.specs.Logs.{Happening, other}
-use Rattle.qs_runs.specs.Worlds.{World, end_of, WorldStep}
+use Rattle.qs_runs.specs.Worlds.{end_of}
 use Rattle.qs_runs.proofs.Histories.{two_sides}
 use Rattle.qs_runs.proofs.Runs.{run_keeps}
 use Rattle.qs_progress.specs.Score.{score, one_if}
@@ -38,18 +32,18 @@ use Rattle.qs_progress.specs.Outstanding.{IsIn, IsReached}
 use Rattle.qs_progress.specs.Comes.{IsReached as IsThere}
 use Rattle.qs_progress.specs.Rounds.{Happens}
 use Rattle.qs_progress.proofs.Sums.{le_same}
-use Rattle.qs_progress.proofs.Score.{Goes, goes_call, score_grows, peer_stays}
+use Rattle.qs_progress.proofs.Score.{Goes, goes_call, peer_stays}
 use Rattle.qs_progress.proofs.Within.{items_are_within}
 use Rattle.qs_progress.proofs.Undone.{acks_edits}
 use Rattle.qs_progress.proofs.Outstanding.{AcksStay, StayIn, stay_same, stay_twice, homes_of, what_is_out_stays}
 use Rattle.qs_progress.proofs.Even.{read_even, told_even_of}
-use Rattle.qs_progress.proofs.Steps.{read_same, raised_at}
+use Rattle.qs_progress.proofs.Steps.{IsNew, read_same, raised_at}
 use Rattle.qs_progress.proofs.Unread.{none_unread, news_read}
 use Rattle.qs_progress.proofs.Pairs.{ready}
 use Rattle.qs_progress.proofs.Trails.{reached}
 use Rattle.qs_progress.proofs.Turns.{is_made}
-use Rattle.qs_progress.proofs.Ahead.{ahead, out_of, out_in, OutHomes, all_leave, ahead_goes, ahead_grows, ahead_more}
-use Rattle.qs_progress.proofs.Carrying.{adds}
+use Rattle.qs_progress.proofs.Ahead.{ahead, out_in, OutHomes, ahead_goes, ahead_grows, ahead_more}
+use Rattle.qs_progress.proofs.Carrying.{ahead_puts, ahead_reads, adds, undone_new}
 
 -- what would be done of a side
 abbrev pub would : Side → Moment → ℕ
@@ -84,6 +78,17 @@ module _ (a b : Settings) where
         two_sides (λ t. would t old ≤ would t new) x.end
         (ahead_grows (end_of old.ends x.end) (end_of new.ends x.end) goes stays (out_homes new r_new x.end) out)
         (subst (λ e. would (other x.end) old ≤ score (ahead e)) (sym happens.1.still) (le_same (would (other x.end) old))) s
+
+    -- what goes out raises it
+    pub would_put : (p : Piece) → IsIn (end_of new.ends x.end).outstanding (end_of old.ends x.end).next p → IsNew (end_of old.ends x.end) p → would x.end old < would x.end new
+    would_put p at due =
+        let e = end_of old.ends x.end in
+        ahead_puts e (end_of new.ends x.end) goes stays (out_homes new r_new x.end) out e.next p at (undone_new e (ready a b x.end old r) p due)
+
+    -- and so does what a reader is told
+    pub would_read : (n : ℕ) (l m : RecvLane) → recv_lane (end_of old.ends x.end) n ≡ Some l → recv_lane (end_of new.ends x.end) n ≡ Some m
+        → (l.arrived.read_count < m.arrived.read_count) ⊎ ((l.reader_done ≡ false) × (m.reader_done ≡ true)) → would x.end old < would x.end new
+    would_read = ahead_reads (end_of old.ends x.end) (end_of new.ends x.end) goes stays (out_homes new r_new x.end) out
 
   -- a packet that is made adds to it, or an ACK is due no more
   pub made_adds : (s : Side) (first delay room : ℕ) (made : Made) (text : List ℕ) (old new : Moment) → IsThere a b old
@@ -122,15 +127,11 @@ module _ (a b : Settings) where
       stuck even (Some fault) is step = not_refused (is_read_no_more e) unshut (recv_lane e n) at (Some fault) is
         where
           not_refused : (b : Bool) → b ≡ false → (q : Option RecvLane) → q ≡ Some l → (o : Option UseFault) → first_refusal (refuse_if b uses.Closed) (elim q [ None ↦ Some (no_half (is_some (send_lane e n))) | Some x ↦ None ]) ≡ Some fault → ⊥
-          not_refused true is q there o refused = true≢false is
-          not_refused false is None there o refused = none-some l there
-          not_refused false is (Some x) there o refused = none-some fault refused
+          not_refused b is q there o refused = grind (arith, nat_tests)
       stuck even None is (k, there, answered, told, after) =
           let x : Happening = record { end = s; call = ReadUpTo n (suc size); answer = answer } in
           let g = ahead_goes e f (goes x old new r tt happens) (stays x old new r tt happens) (out_homes new (r_new x old new r tt happens) s) (out x old new r tt happens) in
           let next = raise (after_read l (suc size)) in
-          let was : lookup (ahead e).recvs n ≡ Some l = ap (λ (y : End). lookup y.recvs n) (all_leave (out_of e) e) ∙ at in
           let now : lookup f.recvs n ≡ Some next = ap (λ (y : End). lookup y.recvs n) after ∙ raised_at e (ready a b s old r) n (λ m. after_read m (suc size)) l at in
-          let is_now : lookup (ahead f).recvs n ≡ Some next = ap (λ (y : End). lookup y.recvs n) (all_leave (out_of f) f) ∙ now in
           news_read l size lawful (none_unread a b old.log old.ends r.run s n l at) news
-          (read_same l (suc size) lawful (read_even (ahead e) (ahead f) g even n l next was is_now) (told_even_of (ahead e) (ahead f) g even n l next was is_now))
+          (read_same l (suc size) lawful (read_even (ahead e) (ahead f) g even n l next at now) (told_even_of (ahead e) (ahead f) g even n l next at now))

@@ -1,10 +1,9 @@
 -- Where a score stays the same, so does each thing that it counts.
-use Rattle.std.proofs.Common.{◌≡◌, ℕ, zero, suc, ◌+◌, ◌-◌, ◌*◌, ◌/◌, ◌%◌, ◌<◌, ◌≤◌, Bool, true, false, not, ◌&&◌, slice_get, sum_by, Option, Some, None, is_some, refl, sym, ap, ◌∙◌, subst, arith, inl, inr}
-use Rattle.std.specs.Prelude.{nat_le}
+use Rattle.std.proofs.Common.{◌≡◌, ℕ, zero, suc, ◌+◌, ◌-◌, ◌*◌, ◌/◌, ◌%◌, ◌<◌, ◌≤◌, Bool, true, false, slice_get, sum_by, Option, Some, is_some, refl, sym, ap, ◌∙◌, subst, arith, inl, inr}
 use Rattle.std.specs.List.{range_with_len}
 use Rattle.std.specs.FinSet as set
 use Rattle.std.specs.Cmp.{nat_cmp_total, unsigned_tied}
-use Rattle.std.proofs.lemmas.Bool.{cases_lt, or_cases, true≢false, eqb-true}
+use Rattle.std.proofs.lemmas.Bool.{cases_lt, or_cases, eqb-true}
 use Rattle.std.proofs.lemmas.Bool.Decides.{nat_tests}
 use Rattle.std.proofs.lemmas.List.Sums.{sum_by-cons}
 use Rattle.std.proofs.lemmas.Option.{same_Some, slice_get_within}
@@ -59,19 +58,11 @@ members_even s t within few q there = go (set.contains s q) refl
         absurd (omega (arith, more, all, few))
 
 pub one_even : (b c : Bool) → one_if c ≤ one_if b → c ≡ true → b ≡ true
-one_even true c even is = refl
-one_even false true even is = absurd (omega (arith, even))
-one_even false false even is = absurd (true≢false (sym is))
+one_even b c even is = grind (arith, nat_tests)
 
 -- a value that isn't acknowledged, and the ones that follow it
 pub told_even : (least p q : ℕ) (d : Bool) → least ≤ p → p ≤ q → told_from least q d ≤ told_from least p false → (q ≡ p) × (d ≡ false)
-told_even least p q d low le even = go (nat_le least p) refl (nat_le least q) refl d refl even
-  where
-    go : (b : Bool) → nat_le least p ≡ b → (c : Bool) → nat_le least q ≡ c → (x : Bool) → d ≡ x → (q - least) + one_if (c && x) ≤ (p - least) + one_if (b && false) → (q ≡ p) × (d ≡ false)
-    go false over c is x ex few = absurd (grind (arith, nat_tests, over, low))
-    go true under false over x ex few = absurd (grind (arith, nat_tests, over, low, le))
-    go true under true is true ex few = absurd (omega (arith, few, low, le))
-    go true under true is false ex few = (omega (arith, few, low, le), ex)
+told_even least p q d low le even = grind (arith, nat_tests)
 
 -- a stream that has a half is counted
 counted : {X : Type 0} (t : Tables X) (n : ℕ) (x : X) → lookup t n ≡ Some x → n / 4 < total (λ (y : X). 1) t
@@ -79,10 +70,7 @@ unfolding lookup total
 counted {X} t n x is = by (n % 4) is
   where
     by : (k : ℕ) → slice_get (table t k) (n / 4) ≡ Some x → n / 4 < total (λ (y : X). 1) t
-    by zero at = omega (arith, slice_get_within t.client_bidi (n / 4) x at, sum_ones t.client_bidi)
-    by (suc zero) at = omega (arith, slice_get_within t.server_bidi (n / 4) x at, sum_ones t.server_bidi)
-    by (suc (suc zero)) at = omega (arith, slice_get_within t.client_uni (n / 4) x at, sum_ones t.client_uni)
-    by (suc (suc (suc k))) at = omega (arith, slice_get_within t.server_uni (n / 4) x at, sum_ones t.server_uni)
+    by k at = grind (arith, nat_tests, slice_get_within, sum_ones)
 
 -- Two ends with the same score, of which the second did and knows no less
 
@@ -99,11 +87,7 @@ module _ (a b : End) (g : Goes a b) (even : score b ≤ score a) where
       by k lt (omega (arith, even, t1, t2, t3, bidi, uni, credit)) (omega (arith, even, t0, t2, t3, bidi, uni, credit)) (omega (arith, even, t0, t1, t3, bidi, uni, credit)) (omega (arith, even, t0, t1, t2, bidi, uni, credit))
     where
       by : (k : ℕ) → k < 4 → type_marks b 0 ≤ type_marks a 0 → type_marks b 1 ≤ type_marks a 1 → type_marks b 2 ≤ type_marks a 2 → type_marks b 3 ≤ type_marks a 3 → type_marks b k ≤ type_marks a k
-      by zero lt none first second third = none
-      by (suc zero) lt none first second third = first
-      by (suc (suc zero)) lt none first second third = second
-      by (suc (suc (suc zero))) lt none first second third = third
-      by (suc (suc (suc (suc k)))) lt none first second third = absurd (omega (arith, lt))
+      by k lt none first second third = grind (arith, nat_tests)
 
   pub stream_even : (n : ℕ) → stream_marks b n ≤ stream_marks a n
   stream_even n =
@@ -122,8 +106,7 @@ module _ (a b : End) (g : Goes a b) (even : score b ≤ score a) where
       none {X} marks t empty = go (lookup t n) refl
         where
           go : (o : Option X) → lookup t n ≡ o → marks_of marks o ≡ 0
-          go None is = refl
-          go (Some x) is = absurd (empty x is)
+          go o is = grind (arith, nat_tests)
 
   -- of the halves of a stream
   sends_even : (n : ℕ) → marks_of (sent_marks b n) (lookup b.sends n) ≤ marks_of (sent_marks a n) (lookup a.sends n)
@@ -143,9 +126,7 @@ module _ (a b : End) (g : Goes a b) (even : score b ≤ score a) where
   open_even n peers open_now = go (lookup a.recvs n) (lookup b.recvs n) open_now (recvs_even n)
     where
       go : (o p : Option RecvLane) → is_some p ≡ true → marks_of (got_marks b n) p ≤ marks_of (got_marks a n) o → is_some o ≡ true
-      go (Some l) p some few = refl
-      go None None none few = absurd (true≢false (sym none))
-      go None (Some m) some few = (let one : one_if (not (is_own b n)) ≡ 1 = ap (λ x. one_if (not x)) peers in absurd (omega (arith, few, one)))
+      go o p some few = grind (arith, nat_tests)
 
   module _ (n : ℕ) (l m : SendLane) (at : lookup a.sends n ≡ Some l) (there : lookup b.sends n ≡ Some m) where
     sent_all : sent_marks b n m ≤ sent_marks a n l

@@ -1,4 +1,6 @@
 -- Which calls send or tell something, and which don't.
+use Rattle.std.proofs.lemmas.Bool.Decides.{nat_tests}
+use Rattle.std.proofs.Common.{arith}
 use Rattle.std.proofs.Common.{Bool, true, false, [], ◌∷◌, refl, sym, ◌∙◌, inr}
 use Rattle.std.proofs.lemmas.Option.{none-some}
 use Rattle.qs_calls.specs.declared.event.Side.TheVariants.{A}
@@ -15,8 +17,7 @@ unfolding lookup
 tells_end = ((A, inr (0, ended_half false, ended_half true, refl, refl, inr (refl, refl))), tt)
 
 none_less : (mark : Bool) (m : Moment) → Does (mark ∷ []) m [] → ⊥
-none_less true m none = none
-none_less false m none = none
+none_less mark m none = grind (arith, nat_tests)
 
 pub ending_exclusions : EndingExclusions
 ending_exclusions =

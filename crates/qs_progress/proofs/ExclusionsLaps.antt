@@ -1,5 +1,5 @@
 -- Which small trails are laps, and which aren't.
-use Rattle.std.proofs.Common.{◌≡◌, ℕ, ◌+◌, max, true, false, List, [], ◌∷◌, length, Option, Some, None, nat_cmp, refl, sym, ap, ◌∙◌, subst, arith, inl, inr}
+use Rattle.std.proofs.Common.{◌≡◌, ℕ, ◌+◌, max, false, List, [], ◌∷◌, length, Option, Some, None, nat_cmp, refl, sym, ap, ◌∙◌, subst, arith, inl, inr}
 use Rattle.std.proofs.lemmas.Option.{none-some, same_Some}
 use Rattle.std.proofs.lemmas.Bool.{false≢true, true≢false, or_left}
 use Rattle.std.proofs.lemmas.Bool.Decides.{nat_tests}
@@ -7,7 +7,6 @@ use Rattle.std.specs.FinMap as fmap
 use Rattle.std.specs.FinSet as set
 use Rattle.std.specs.Cmp.{nat_cmp_total}
 use Rattle.qs_wire.specs.declared.stream_id.Role.TheVariants.{Server}
-use Rattle.qs_recv.specs.News.{is_readable}
 use Rattle.qs_send.specs.Lane.{SendLane, reset_acked_lane}
 use Rattle.qs_send.specs.Records.{Among}
 use Rattle.qs_send.specs.declared.piece.Item.{Item}
@@ -43,18 +42,14 @@ rests A = rest_exclusions.rests.told_end
 rests B = rest_exclusions.rests.new Server
 
 pub none_readable : (s : Side) (n : ℕ) → IsReadable (end_of after.ends s) n → ⊥
-none_readable A n (shut, (l, at, tells)) =
-    let same : l ≡ ended_half true = only_open (ended_half true) l n at in
-    false≢true (subst (λ x. is_readable x ≡ true) same tells)
-none_readable B n (shut, (l, at, tells)) = none-some l (sym (no_lane n) ∙ at)
+none_readable s n h = grind (arith, nat_tests, only_open, false≢true, none-some, no_lane)
 
 pub reads_step : WorldStep before.log before.ends reads_end after.ends
 unfolding lookup total each update
 reads_step = record { step = (ended_half false, refl, refl, refl, refl); still = refl; may = λ none. tt }
 
 none_made : (s : Side) → (end_of before.ends s).next ≡ 0
-none_made A = refl
-none_made B = refl
+none_made s = grind (arith, nat_tests)
 
 reads_lap : Lap before after
 reads_lap =
@@ -105,8 +100,7 @@ module _ (x : Happening) (old new : Moment) (s : Side) (follows : Follows x old 
       quiet (subst (λ (k : Moment). HasMore (end_of k.ends s)) (sym (at m (subst (Among m) one among))) more)
     where
       at : (m : Moment) → Among m (new ∷ []) → m ≡ new
-      at m (inl is) = is
-      at m (inr none) = absurd none
+      at m h = grind (arith, nat_tests)
 
   none_unread : (n : ℕ) → IsReadable (end_of new.ends s) n → ⊥
   none_unread n more =
@@ -116,8 +110,7 @@ module _ (x : Happening) (old new : Moment) (s : Side) (follows : Follows x old 
       none-some k is
     where
       at : (m : Moment) → Among m (new ∷ []) → m ≡ new
-      at m (inl is) = is
-      at m (inr none) = absurd none
+      at m h = grind (arith, nat_tests)
 
 nothing_happens : (m : Moment) → Lap m m → ⊥
 nothing_happens m lap = go lap.moments lap.calm (lap.spent A)
@@ -153,20 +146,10 @@ told m = record raised { acked = record no_items { max_data = Some m } }
 
 -- but the limit nothing is due that wasn't before it was raised
 due_before : (i : Item) → IsDueItem (told 5000) i → HasMore (server standard)
-due_before (MaxData m) ((same, above), uncovered) = absurd (uncovered (inr (ap Some (sym same))))
-due_before (MaxStreamData n m) due = inl (MaxStreamData n m, due)
-due_before (MaxStreams Bidi m) due = inl (MaxStreams Bidi m, due)
-due_before (MaxStreams Uni m) due = inl (MaxStreams Uni m, due)
-due_before (ResetStream n code size) due = inl (ResetStream n code size, due)
-due_before (StopSending n code) due = inl (StopSending n code, due)
-due_before (DataBlocked m) ((same, all, (n, l, wants)), uncovered) = absurd (none-some l (sym (no_lane n) ∙ wants.lane))
-due_before (StreamDataBlocked n m) due = inl (StreamDataBlocked n m, due)
-due_before (StreamsBlocked Bidi m) due = inl (StreamsBlocked Bidi m, due)
-due_before (StreamsBlocked Uni m) due = inl (StreamsBlocked Uni m, due)
+due_before i h = grind (arith, nat_tests, none-some, no_lane)
 
 not_again : HasMore (told 5000) → ⊥
-not_again (inl (i, due)) = (rest_exclusions.rests.new Server).quiet (due_before i due)
-not_again (inr (n, (l, at, goes))) = none-some l (sym (no_lane n) ∙ at)
+not_again h = grind (arith, nat_tests, due_before, none-some, no_lane)
 
 -- where none was, an acknowledged item is so with its value
 greatest_first : (o : Option ℕ) (m : ℕ) → o ≡ None → greatest o m ≡ Some m

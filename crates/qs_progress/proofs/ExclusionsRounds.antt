@@ -1,4 +1,5 @@
 -- Which small steps are rounds, and which aren't.
+use Rattle.std.proofs.lemmas.Bool.Decides.{nat_tests}
 use Rattle.std.proofs.Common.{◌≡◌, ℕ, ◌+◌, Bool, true, false, List, [], ◌∷◌, length, nat_cmp, is_some, refl, sym, ap, ◌∙◌, subst, arith, inl, inr}
 use Rattle.std.specs.Prelude.{Ok}
 use Rattle.std.specs.FinMap as fmap
@@ -40,14 +41,7 @@ length_of x old new (logged, step) = (let is : length new.log ≡ length (x ∷ 
 
 -- one thing happened: it is calm, and no end changed
 one_passes : (s : Side) (x : Happening) (old new : Moment) → Happens x old new → Passes s old new → IsCalm x.call × (new.ends ≡ old.ends)
-one_passes s x old new happens (inl (call, answer, bytes, mid, calm, make, receive)) =
-    let one = length_of x old new happens in
-    let first = length_of _ old mid make in
-    let second = length_of _ mid new receive in
-    absurd (omega (arith, one, first, second))
-one_passes s x old new (logged, step) (inr (y, calm, (also, took), same)) =
-    let is : x ≡ y = ap (first_of x) (sym logged ∙ also) in
-    (subst (λ (h : Happening). IsCalm h.call) (sym is) calm, same)
+one_passes s x old new happens h = grind (arith, nat_tests, length_of, first_of)
 
 never_comes : (s : Side) (first delay room : ℕ) (made : Made) (text : List ℕ) (old new : Moment) → Happens (makes s first delay room made text) old new → Passes s old new → ⊥
 never_comes s first delay room made text old new happens passes =

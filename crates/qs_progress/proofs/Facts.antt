@@ -1,12 +1,12 @@
 -- What an end knows to be acknowledged, fact by fact, and what pieces add to it.
-use Rattle.std.proofs.Common.{◌≡◌, ℕ, ◌+◌, ◌<◌, ◌≤◌, nat_le, nat_cmp, Bool, true, false, cond, List, [], ◌∷◌, ◌⊎◌, max, Option, Some, None, refl, sym, ap, ◌∙◌, subst, arith, inl, inr}
+use Rattle.std.proofs.Common.{◌≡◌, ℕ, ◌+◌, ◌<◌, ◌≤◌, nat_cmp, Bool, true, cond, List, [], ◌∷◌, ◌⊎◌, max, Option, Some, None, refl, sym, ap, ◌∙◌, arith, inl, inr}
 use Rattle.std.specs.FinMap as fmap
 use Rattle.std.specs.FinSet as set
 use Rattle.std.specs.Ordering.{eq_by_cmp}
 use Rattle.std.specs.Cmp.{nat_cmp_total, unsigned_tied}
-use Rattle.std.proofs.lemmas.Bool.{cases_lt, eqb-true, or_cases}
+use Rattle.std.proofs.lemmas.Bool.{eqb-true, or_cases}
 use Rattle.std.proofs.lemmas.Bool.Decides.{nat_tests}
-use Rattle.std.proofs.lemmas.Option.{same_Some, none-some}
+use Rattle.std.proofs.lemmas.Option.{same_Some}
 use Rattle.qs_ranges.specs.Numbers.{is_within, contains-with_range}
 use Rattle.qs_wire.specs.declared.stream_id.Dir.TheVariants.{Bidi, Uni}
 use Rattle.qs_send.specs.Lane.{SendLane, acked_lane, reset_acked_lane}
@@ -59,45 +59,17 @@ Gives p x = ⊥
 
 -- Items
 
-reaches_less : (o : Option ℕ) (m v : ℕ) → reaches o v ≡ true → m ≤ v → reaches o m ≡ true
-reaches_less None m v is le = is
-reaches_less (Some k) m v is le = grind (arith, nat_tests)
-
 covers_done : (x : AckedItems) (j i : Item) → Covers j i → is_done x j ≡ true → is_done x i ≡ true
-covers_done x (MaxData v) (MaxData m) le is = reaches_less x.max_data m v is le
-covers_done x (MaxStreamData n v) (MaxStreamData k m) (same, le) is = reaches_less (fmap.get x.max_stream_data k) m v (ap (λ i. reaches (fmap.get x.max_stream_data i) v) same ∙ is) le
-covers_done x (MaxStreams Bidi v) (MaxStreams Bidi m) le is = reaches_less x.bidi_streams m v is le
-covers_done x (MaxStreams Uni v) (MaxStreams Uni m) le is = reaches_less x.uni_streams m v is le
-covers_done x (StopSending n code) (StopSending k other) same is = ap (set.contains x.stop_sending) same ∙ is
-covers_done x (DataBlocked v) (DataBlocked m) le is = reaches_less x.data_blocked m v is le
-covers_done x (StreamDataBlocked n v) (StreamDataBlocked k m) (same, le) is = reaches_less (fmap.get x.stream_data_blocked k) m v (ap (λ i. reaches (fmap.get x.stream_data_blocked i) v) same ∙ is) le
-covers_done x (StreamsBlocked Bidi v) (StreamsBlocked Bidi m) le is = reaches_less x.bidi_blocked m v is le
-covers_done x (StreamsBlocked Uni v) (StreamsBlocked Uni m) le is = reaches_less x.uni_blocked m v is le
-covers_done x j i none is = absurd none
+covers_done x j i le is = grind (arith, nat_tests)
 
 greatest_one : (o : Option ℕ) (v m : ℕ) → reaches (greatest o v) m ≡ true → (reaches o m ≡ true) ⊎ (m ≤ v)
-greatest_one None v m is = inr (grind (arith, nat_tests, is))
-greatest_one (Some k) v m is =
-    elim (cases_lt v m) [
-      | inl lt ↦ inl (grind (arith, nat_tests, is, lt))
-      | inr le ↦ inr le
-    ]
-
-zero_one : (o : Option ℕ) (v m : ℕ) → nat_le m (max (or_zero o) v) ≡ true → (reaches o m ≡ true) ⊎ (m ≤ v)
-zero_one None v m is = inr (grind (arith, nat_tests, is))
-zero_one (Some k) v m is = greatest_one (Some k) v m is
+greatest_one o v m is = grind (arith, nat_tests)
 
 greatest_of_one : (values : fmap.FinMap nat_cmp ℕ) (n v k m : ℕ) → reaches (fmap.get (greatest_of values n v) k) m ≡ true → (reaches (fmap.get values k) m ≡ true) ⊎ ((k ≡ n) × (m ≤ v))
 greatest_of_one values n v k m is = go (eq_by_cmp nat_cmp k n) refl (sym (ap (λ o. reaches o m) (fmap.get-insert nat_cmp_total values n (max (or_zero (fmap.get values n)) v) k)) ∙ is)
   where
     go : (b : Bool) → eq_by_cmp nat_cmp k n ≡ b → reaches (cond b (Some (max (or_zero (fmap.get values n)) v)) (fmap.get values k)) m ≡ true → (reaches (fmap.get values k) m ≡ true) ⊎ ((k ≡ n) × (m ≤ v))
-    go false other was = inl was
-    go true same now =
-        let e : k ≡ n = eqb-true k n (sym (unsigned_tied k n) ∙ same) in
-        elim (zero_one (fmap.get values n) v m now) [
-          | inl was ↦ inl (ap (λ j. reaches (fmap.get values j) m) e ∙ was)
-          | inr le ↦ inr (e, le)
-        ]
+    go b other was = grind (arith, nat_tests)
 
 item_step : (j : Item) (e : End) (i : Item) → is_done (item_acked j e).acked i ≡ true → (is_done e.acked i ≡ true) ⊎ Covers j i
 item_step (MaxData v) e (MaxData m) is = greatest_one e.acked.max_data v m is

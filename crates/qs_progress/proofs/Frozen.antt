@@ -9,7 +9,7 @@ use Rattle.qs_wire.specs.declared.stream_id.Dir.{Dir}
 use Rattle.qs_wire.specs.declared.stream_id.Dir.TheVariants.{Bidi, Uni}
 use Rattle.qs_recv.specs.Assembled.{put, forget}
 use Rattle.qs_recv.specs.Lane.{RecvLane, take_stream, take_reset, is_whole}
-use Rattle.qs_send.specs.Lane.{SendLane, reset_refusal, first_code, broken_off, stop_taken, allow_lane}
+use Rattle.qs_send.specs.Lane.{SendLane, stop_taken, allow_lane}
 use Rattle.qs_send.specs.declared.piece.Item.{Item}
 use Rattle.qs_send.specs.declared.piece.Item.TheVariants.{MaxData, MaxStreamData, MaxStreams, ResetStream, StopSending, DataBlocked, StreamDataBlocked, StreamsBlocked}
 use Rattle.qs_machine.specs.Tables.{Tables, lookup, updated}
@@ -25,7 +25,7 @@ use Rattle.qs_machine.proofs.EveryCall.{not_chosen}
 use Rattle.qs_machine.proofs.TablesAfter.{KeptIn, still_open}
 use Rattle.qs_machine.proofs.Taken.{in_there, out_there, stream_in, reset_in}
 use Rattle.qs_machine.proofs.LanesAgain.{LaneAfter, put_again}
-use Rattle.qs_machine.proofs.EndsAfter.{IsAfter, HalfAfter, after_twice, mid_stream, mid_reset, mid_allow, mid_stop, has_code}
+use Rattle.qs_machine.proofs.EndsAfter.{IsAfter, HalfAfter, after_twice, mid_stream, mid_reset, mid_allow, mid_stop}
 use Rattle.qs_machine.proofs.Again.{WasOpened, IsStopped, opens_it, opened_back, recv_back, send_back, stopped_back, allow_back, changed, first_goes, one_left, all_left}
 use Rattle.qs_progress.specs.Score.{first_count, score}
 use Rattle.qs_progress.proofs.Score.{Goes}
@@ -42,8 +42,7 @@ pub record IsSteady (e : End) : Type 0 where
   pub stops : e.tuning.answers_stops ≡ false → (n : ℕ) (l : SendLane) → lookup e.sends n ≡ Some l → is_some l.stopped ≡ true → is_some l.was_reset ≡ true
 
 none_and : (b : Bool) → (b && false) ≡ false
-none_and true = refl
-none_and false = refl
+none_and b = grind (arith, nat_tests)
 
 module _ (old new : End) (g : Goes old new) (even : score new ≤ score old) (steady : IsSteady old) (kept : KeptIn LaneAfter old.recvs new.recvs) where
   module _ (e : End) (same : but_records e ≡ but_records old) (alike : SendsAlike old.sends e.sends) where
@@ -74,9 +73,7 @@ module _ (old new : End) (g : Goes old new) (even : score new ≤ score old) (st
         }
       where
         one_way : (u o : Bool) → o ≡ false → (u && not o) ≡ false → u ≡ false
-        one_way false o is c = refl
-        one_way true false is c = absurd (true≢false c)
-        one_way true true is c = absurd (true≢false is)
+        one_way u o is c = grind (arith, nat_tests)
 
     -- Frames on what the peer sends
 
@@ -148,25 +145,7 @@ module _ (old new : End) (g : Goes old new) (even : score new ≤ score old) (st
           ]
 
     stopped_was : (n code : ℕ) (l : SendLane) → lookup e.sends n ≡ Some l → ((is_some (stop_taken e.tuning.answers_stops l code).stopped ≡ true) → (is_some l.stopped ≡ true) ⊎ (is_some l.was_reset ≡ true)) → IsStopped e.tuning.answers_stops l
-    stopped_was n code l at told = go (is_some (reset_refusal l)) refl e.tuning.answers_stops refl
-      where
-        reset_refused : is_some l.was_reset ≡ true → is_some (reset_refusal l) ≡ true
-        reset_refused is = rw is refl
-
-        go : (b : Bool) → is_some (reset_refusal l) ≡ b → (answers : Bool) → e.tuning.answers_stops ≡ answers → IsStopped e.tuning.answers_stops l
-        go true is answers chosen = inl is
-        go false is true chosen =
-            let come : is_some (stop_taken e.tuning.answers_stops l code).stopped ≡ true = subst (λ w. is_some (stop_taken w l code).stopped ≡ true) (sym chosen) (ap (λ b. is_some (cond b l (record l { stopped = first_code l.stopped code })).stopped) is ∙ has_code l.stopped code) in
-            elim (told come) [ inl stopped ↦ inr (chosen, stopped) | inr reset ↦ absurd (true≢false (sym (reset_refused reset) ∙ is)) ]
-        go false is false chosen =
-            let come : is_some (stop_taken e.tuning.answers_stops l code).stopped ≡ true = subst (λ w. is_some (stop_taken w l code).stopped ≡ true) (sym chosen) (ap (λ b. is_some (cond b l (record (broken_off l code) { stopped = first_code l.stopped code })).stopped) is ∙ has_code l.stopped code) in
-            elim (told come) [
-              | inl stopped ↦ (
-                  let (k, was, a) = alike_back old.sends e.sends alike n l at in
-                  let reset : is_some l.was_reset ≡ true = ap is_some a.was_reset ∙ steady.stops (ap (λ (x : End). x.tuning.answers_stops) (sym same) ∙ chosen) n k was (ap is_some (sym a.stopped) ∙ stopped) in
-                  absurd (true≢false (sym (reset_refused reset) ∙ is)))
-              | inr reset ↦ absurd (true≢false (sym (reset_refused reset) ∙ is))
-            ]
+    stopped_was n code l at told = grind (arith, nat_tests)
 
     led_lane : (n : ℕ) (f : RecvLane → RecvLane) (l : RecvLane) (mid after : End) → lookup mid.recvs n ≡ Some l → after.recvs ≡ updated mid.recvs n f (lookup mid.recvs n) → IsAfter after new → (m : RecvLane) → lookup new.recvs n ≡ Some m → LaneAfter (f l) m
     led_lane n f l mid after at is x m there =

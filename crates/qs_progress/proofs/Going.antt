@@ -1,14 +1,14 @@
 -- What goes out wasn't acknowledged.
-use Rattle.std.proofs.Common.{◌≡◌, ℕ, ◌≤◌, Bool, true, false, List, [], ◌∷◌, ◌++◌, ◌⊎◌, take, Option, Some, None, refl, sym, ap, ◌∙◌, subst, arith, inl, inr}
+use Rattle.std.proofs.Common.{◌≡◌, ℕ, ◌≤◌, Bool, true, false, List, [], ◌∷◌, ◌⊎◌, take, Option, Some, refl, sym, ap, ◌∙◌, subst, arith, inl, inr}
 use Rattle.std.specs.FinMap as fmap
 use Rattle.std.specs.FinSet as set
-use Rattle.std.proofs.lemmas.Bool.{cases_eq, cond_both, true≢false, false≢true}
+use Rattle.std.proofs.lemmas.Bool.{cases_eq, cond_both, true≢false}
 use Rattle.std.proofs.lemmas.Bool.Decides.{nat_tests}
-use Rattle.std.proofs.lemmas.Option.{same_Some, none-some}
+use Rattle.std.proofs.lemmas.Option.{same_Some}
 use Rattle.qs_wire.specs.declared.stream_id.Dir.TheVariants.{Bidi, Uni}
 use Rattle.qs_recv.specs.Lane.{RecvLane}
 use Rattle.qs_send.specs.Lane.{SendLane, sent_lane, blocked_lane}
-use Rattle.qs_send.specs.Records.{Among, PacketPieces}
+use Rattle.qs_send.specs.Records.{PacketPieces}
 use Rattle.qs_send.specs.declared.piece.Item.{Item}
 use Rattle.qs_send.specs.declared.piece.Item.TheVariants.{MaxData, MaxStreamData, MaxStreams, ResetStream, StopSending, DataBlocked, StreamDataBlocked, StreamsBlocked}
 use Rattle.qs_send.specs.declared.piece.Piece.{Piece}
@@ -18,7 +18,7 @@ use Rattle.qs_machine.specs.Ends.{End, is_own, on_send, opens, opened_by_peer}
 use Rattle.qs_machine.specs.Due.{IsCurrent, IsAcked}
 use Rattle.qs_machine.specs.Seen.{Seen, Ack, Stream, Control, Close, Plain}
 use Rattle.qs_machine.specs.FrameStep.{AckedPiece, acked_at, frame_taken, frames_taken, without_piece, acks, first_acked, named}
-use Rattle.qs_machine.specs.Lawful.{MayPut, MayCarry, Fills, frame_put, noted, pieces_so_far, chunk_of}
+use Rattle.qs_machine.specs.Lawful.{MayPut, MayCarry, Fills, frame_put, noted, chunk_of}
 use Rattle.qs_machine.proofs.AcksAgain.{held_piece, first_other}
 use Rattle.qs_machine.proofs.Carried.{get_new, get_other, among_push, so_far}
 use Rattle.qs_runs.specs.Worlds.{end_of}
@@ -36,8 +36,7 @@ use Rattle.qs_progress.proofs.CalmCalls.{Ends, Forms, calm_call}
 -- What is reached of a present value is acknowledged
 
 reached_is : (o : Option ℕ) (m : ℕ) → reaches o m ≡ true → ((k : ℕ) → o ≡ Some k → k ≤ m) → o ≡ Some m
-reached_is None m is few = absurd (false≢true is)
-reached_is (Some k) m is few = (let le = few k refl in let same : k ≡ m = grind (arith, nat_tests, is) in ap Some same)
+reached_is o m is few = grind (arith, nat_tests)
 
 pub done_acked : (e : End) → AllWithin e → (i : Item) → IsCurrent e i → IsReached e (Told i) → IsAcked e i
 done_acked e within (MaxData m) now is = reached_is e.acked.max_data m is (λ k at. let le = within (MaxData k) (inr at) in omega (arith, le, now.0))
@@ -72,10 +71,7 @@ chunk_unreached e n offset bytes fin l may (m, there, all, end) =
 
 module _ (k : ℕ) (p : Piece) where
   rest_back : (m m' : PacketPieces) (o : Option (List Piece)) → fmap.get m k ≡ o → fmap.get m' k ≡ rest_of o → IsIn m' k p → IsIn m k p
-  rest_back m m' None is left (ps, at, among) = absurd (none-some ps (sym left ∙ at))
-  rest_back m m' (Some []) is left (ps, at, among) = absurd (none-some ps (sym left ∙ at))
-  rest_back m m' (Some (r ∷ [])) is left (ps, at, among) = absurd (none-some ps (sym left ∙ at))
-  rest_back m m' (Some (r ∷ q ∷ qs)) is left (ps, at, among) = (r ∷ q ∷ qs, is, inr (subst (Among p) (same_Some ps (q ∷ qs) (sym at ∙ left)) among))
+  rest_back m m' o is left h = grind (arith, nat_tests)
 
   first_back : (late : Bool) (j : ℕ) (r : Piece) (e : End) → IsIn (first_acked (acked_at late j r) e).outstanding k p → IsIn e.outstanding k p
   first_back true j r e here = subst (λ m. IsIn m k p) (held_piece false r (without_piece true j e)) here
@@ -121,16 +117,7 @@ module _ (k : ℕ) (p : Piece) where
   -- Packets
 
   noted_back : (q : Piece) (e : End) → IsIn (noted q e).outstanding k p → IsIn e.outstanding k p ⊎ (p ≡ q)
-  noted_back q e (ps, at, among) =
-      elim (cases_eq k e.next) [
-        | inl same ↦ (
-            let is : ps ≡ pieces_so_far e e.next ++ q ∷ [] = same_Some ps _ (sym at ∙ ap (fmap.get (noted q e).outstanding) same ∙ get_new e.outstanding e.next (pieces_so_far e e.next ++ q ∷ [])) in
-            elim (among_push (pieces_so_far e e.next) q p (subst (Among p) is among)) [
-              | inl before ↦ (let (qs, there, a) = so_far (fmap.get e.outstanding e.next) p before in inl (qs, ap (fmap.get e.outstanding) same ∙ there, a))
-              | inr e1 ↦ inr e1
-            ])
-        | inr ne ↦ inl (ps, sym (get_other e.outstanding e.next (pieces_so_far e e.next ++ q ∷ []) k ne) ∙ at, among)
-      ]
+  noted_back q e h = grind (arith, nat_tests, cases_eq, same_Some, get_new, among_push, so_far, get_other)
 
   module _ (old : End) (within : AllWithin old) where
     abbrev Fresh : Type 0

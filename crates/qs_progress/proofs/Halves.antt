@@ -1,5 +1,5 @@
 -- What is done of a half stays done, across each of its edits.
-use Rattle.std.proofs.Common.{◌≡◌, ℕ, ◌+◌, ◌≤◌, Bool, true, false, ◌||◌, length, Some, is_some, refl, ◌∙◌, arith}
+use Rattle.std.proofs.Common.{◌≡◌, ℕ, ◌≤◌, Bool, true, ◌||◌, Some, is_some, ◌∙◌, arith}
 use Rattle.std.specs.FinSet as set
 use Rattle.std.specs.Cmp.{nat_cmp_total}
 use Rattle.std.proofs.lemmas.Bool.{cond_both, or_left, or_right}
@@ -7,14 +7,12 @@ use Rattle.std.proofs.lemmas.Bool.Decides.{nat_tests}
 use Rattle.qs_ranges.specs.Numbers.{NumberSet, numbers, end_of, contains-numbers}
 use Rattle.qs_ranges.proofs.Sets.{below-end_of}
 use Rattle.qs_ranges.proofs.Starts.{len_le_of_members}
-use Rattle.qs_recv.specs.Assembled.{discard, forget, put}
-use Rattle.qs_recv.specs.Lane.{RecvLane, after_answer, read_answer, stop, is_over, is_whole}
+use Rattle.qs_recv.specs.Assembled.{discard}
+use Rattle.qs_recv.specs.Lane.{RecvLane, after_answer, stop, is_over}
 use Rattle.qs_recv.specs.declared.half.Read.{Read}
-use Rattle.qs_recv.specs.declared.half.Read.TheVariants as reads
 use Rattle.qs_recv.proofs.LawfulLaws.{raised_grows, under_grows}
-use Rattle.qs_send.specs.Lane.{SendLane, reset_refusal, broken_off, first_code, stop_taken}
-use Rattle.qs_machine.proofs.EachHalf.{SendEdit, Resets, Allows, IsAsked, IsAcked, ResetIsAcked, send_edited, RecvEdit, Stops, Forgets, Reads, Widens, Takes, IsReset, Raises, recv_edited}
-use Rattle.qs_machine.proofs.EndsAfter.{has_code}
+use Rattle.qs_send.specs.Lane.{SendLane, stop_taken}
+use Rattle.qs_machine.proofs.EachHalf.{SendEdit, send_edited, RecvEdit, recv_edited}
 use Rattle.qs_progress.proofs.Sums.{le_same}
 
 more_with : (s : NumberSet) (lo hi : ℕ) → set.len s ≤ set.len (set.union s (numbers lo hi))
@@ -44,22 +42,10 @@ pub sent_twice : (l m k : SendLane) → SentGrows l m → SentGrows m k → Sent
 sent_twice l m k a b = (omega (arith, a.0, b.0), λ is. b.1 (a.1 is), λ is. b.2 (a.2 is), λ is. b.3 (a.3 is), omega (arith, a.4, b.4))
 
 sent_stopped : (answers : Bool) (code : ℕ) (l : SendLane) → SentGrows l (stop_taken answers l code)
-sent_stopped true code l =
-    cond_both (is_some (reset_refusal l)) l (record l { stopped = first_code l.stopped code }) (SentGrows l) (λ _. sent_same l)
-    (λ _. (le_same (set.len l.acked), λ is. is, λ is. is, λ is. or_left _ _ (has_code l.stopped code), le_same l.limit))
-sent_stopped false code l =
-    cond_both (is_some (reset_refusal l)) l (record (broken_off l code) { stopped = first_code l.stopped code }) (SentGrows l) (λ _. sent_same l)
-    (λ _. (le_same (set.len l.acked), λ is. is, λ is. is, λ is. or_left _ _ (has_code l.stopped code), le_same l.limit))
+sent_stopped answers code l = grind (arith, nat_tests)
 
 pub sent_edits : (x : SendEdit) (l : SendLane) → SentGrows l (send_edited x l)
-sent_edits (Resets code) l =
-    cond_both (is_some (reset_refusal l)) l (broken_off l code) (SentGrows l) (λ _. sent_same l)
-    (λ _. (le_same (set.len l.acked), λ is. is, λ is. is, λ is. or_right (is_some l.stopped) true refl, le_same l.limit))
-sent_edits (Allows limit) l = (le_same (set.len l.acked), λ is. is, λ is. is, λ is. is, omega arith)
-sent_edits (IsAsked answers code) l = sent_stopped answers code l
-sent_edits (IsAcked c) l = (more_with l.acked c.offset (c.offset + c.len), λ is. or_left l.fin_acked c.fin is, λ is. is, λ is. is, le_same l.limit)
-sent_edits ResetIsAcked l = (le_same (set.len l.acked), λ is. is, λ is. refl, λ is. is, le_same l.limit)
-sent_edits x l = sent_same l
+sent_edits x l = grind (arith, nat_tests, cond_both, sent_same, le_same, or_right, sent_stopped, more_with, or_left)
 
 -- Receiving halves
 
@@ -79,27 +65,10 @@ pub got_twice : (l m k : RecvLane) → GotGrows l m → GotGrows m k → GotGrow
 got_twice l m k a b = (omega (arith, a.0, b.0), omega (arith, a.1, b.1), λ is. b.2 (a.2 is), λ is. b.3 (a.3 is), λ is. b.4 (a.4 is), omega (arith, a.5, b.5))
 
 got_read : (answer : Read) (size : ℕ) (l : RecvLane) → GotGrows l (after_answer answer l size)
-got_read (reads.Bytes n) size l = (le_same (set.len l.arrived.received), omega arith, λ is. is, λ is. is, λ is. is, le_same l.limit)
-got_read reads.Wait size l = got_same l
-got_read answer size l = (le_same (set.len l.arrived.received), le_same l.arrived.read_count, λ is. is, λ is. is, λ is. refl, le_same l.limit)
+got_read answer size l = grind (arith, nat_tests)
 
 got_stopped : (code : ℕ) (l : RecvLane) → GotGrows l (stop l code)
 got_stopped code l = cond_both (is_some l.stop_code || is_over l) l (record l { arrived = discard l.arrived; stop_code = Some code }) (GotGrows l) (λ _. got_same l) (λ _. got_same l)
 
 pub got_edits : (x : RecvEdit) (l : RecvLane) → GotGrows l (recv_edited x l)
-got_edits (Stops code) l = got_stopped code l
-got_edits (Forgets code) l = let s = got_stopped code l in (s.0, s.1, s.2, s.3, λ _. refl, s.5)
-got_edits (Reads size) l = got_read (read_answer l size) size l
-got_edits (Widens window) l = (le_same (set.len l.arrived.received), le_same l.arrived.read_count, λ is. is, λ is. is, λ is. is, under_grows l window)
-got_edits (Takes offset bytes fin) l = (
-  cond_both (is_some l.reset_code) l.arrived (put l.arrived offset bytes) (λ a. set.len l.arrived.received ≤ set.len a.received) (λ _. le_same (set.len l.arrived.received)) (λ _. more_with l.arrived.received offset (offset + length bytes)),
-  cond_both (is_some l.reset_code) l.arrived (put l.arrived offset bytes) (λ a. l.arrived.read_count ≤ a.read_count) (λ _. le_same l.arrived.read_count) (λ _. le_same l.arrived.read_count),
-  λ is. cond_both fin (Some (offset + length bytes)) l.final_size (λ size. is_some size ≡ true) (λ _. refl) (λ _. is),
-  λ is. is,
-  λ is. is,
-  le_same l.limit,
-)
-got_edits (IsReset code size) l =
-    cond_both (is_some l.reset_code || is_whole l) l (record l { arrived = forget l.arrived; final_size = Some size; reset_code = Some code }) (GotGrows l) (λ _. got_same l)
-    (λ _. (more_below l.arrived.received, le_same l.arrived.read_count, λ is. refl, λ is. refl, λ is. is, le_same l.limit))
-got_edits Raises l = (le_same (set.len l.arrived.received), le_same l.arrived.read_count, λ is. is, λ is. is, λ is. is, raised_grows l)
+got_edits x l = grind (arith, nat_tests, got_stopped, got_read, le_same, under_grows, cond_both, more_with, got_same, more_below, raised_grows)

@@ -1,28 +1,26 @@
 -- Each packet that is outstanding has a piece; so an end at rest answers as one.
-use Rattle.std.proofs.Common.{◌≡◌, ℕ, true, false, cond, not, ◌&&◌, List, [], ◌∷◌, ◌++◌, take, Bool, nat_eq, nat_cmp, Option, Some, None, is_some, inl, inr, refl, sym, ap, ◌∙◌, subst}
+use Rattle.std.proofs.lemmas.Bool.Decides.{nat_tests}
+use Rattle.std.proofs.Common.{arith}
+use Rattle.std.proofs.Common.{◌≡◌, ℕ, false, List, [], ◌∷◌, ◌++◌, nat_cmp, Option, Some, None, is_some, inl, refl, sym, ◌∙◌, subst}
 use Rattle.std.specs.FinMap as fmap
-use Rattle.std.proofs.lemmas.Bool.{cases_eq, cond_both, false≢true, true≢false, and_parts}
-use Rattle.std.proofs.lemmas.Option.{none-some, same_Some}
+use Rattle.std.proofs.lemmas.Bool.{cases_eq, cond_both, true≢false}
+use Rattle.std.proofs.lemmas.Option.{none-some}
 use Rattle.qs_wire.specs.declared.stream_id.Dir.TheVariants.{Uni}
 use Rattle.qs_recv.specs.Lane.{RecvLane, read_answer}
-use Rattle.qs_recv.specs.News.{is_readable, tells_something}
-use Rattle.qs_recv.specs.declared.half.Read.{Read}
-use Rattle.qs_recv.specs.declared.half.Read.TheVariants as reads
-use Rattle.qs_send.specs.Lane.{sent_lane, blocked_lane}
+use Rattle.qs_recv.specs.News.{is_readable}
 use Rattle.qs_send.specs.Records.{PacketPieces, NoneEmpty, without_first}
 use Rattle.qs_send.proofs.Carrying.{rest_of, get-without_first}
 use Rattle.qs_send.specs.declared.piece.Item.TheVariants.{MaxStreamData, MaxStreams, ResetStream, StopSending, StreamDataBlocked}
 use Rattle.qs_send.specs.declared.piece.Piece.{Piece}
-use Rattle.qs_send.specs.declared.piece.Piece.TheVariants.{Data, Told}
 use Rattle.qs_calls.specs.declared.settings.Settings.{Settings}
 use Rattle.qs_calls.specs.declared.event.Side.{Side}
-use Rattle.qs_calls.specs.declared.event.Side.TheVariants.{A, B}
-use Rattle.qs_machine.specs.Ends.{End, is_own, on_send, opens, opened_by_peer}
+use Rattle.qs_calls.specs.declared.event.Side.TheVariants.{A}
+use Rattle.qs_machine.specs.Ends.{End, is_own, opens, opened_by_peer}
 use Rattle.qs_machine.specs.Asking.{GoesBesideAck, IsNextOutstanding}
 use Rattle.qs_machine.specs.News.{IsLeast, IsReadable}
 use Rattle.qs_machine.specs.Seen.{Seen, Ack, Stream, Control}
-use Rattle.qs_machine.specs.FrameStep.{frame_taken, named}
-use Rattle.qs_machine.specs.Lawful.{frame_put, noted, pieces_so_far, chunk_of}
+use Rattle.qs_machine.specs.FrameStep.{frame_taken}
+use Rattle.qs_machine.specs.Lawful.{frame_put, noted}
 use Rattle.qs_machine.specs.Setting.{Grant, SendBuffer, StreamWindow}
 use Rattle.qs_machine.specs.EndStep.{Call, Answer, EndStep}
 use Rattle.qs_machine.proofs.Carried.{get_new, get_other}
@@ -57,31 +55,14 @@ not_bare [] p is = absurd cc
 not_bare (q ∷ qs) p is = absurd cc
 
 full_noted : (p : Piece) (e : End) → Full e → Full (noted p e)
-full_noted p e full k is =
-    elim (cases_eq k e.next) [
-      | inl same ↦ not_bare (pieces_so_far e e.next) p (sym (get_new e.outstanding e.next (pieces_so_far e e.next ++ p ∷ [])) ∙ ap (fmap.get (noted p e).outstanding) (sym same) ∙ is)
-      | inr ne ↦ full k (sym (get_other e.outstanding e.next (pieces_so_far e e.next ++ p ∷ []) k ne) ∙ is)
-    ]
+full_noted p e full k is = grind (arith, nat_tests, cases_eq, not_bare, get_new, get_other)
 
 full_put : (f : Seen) (e : End) → Full e → Full (frame_put f e)
 unfolding frame_put
-full_put (Stream n offset bytes fin) e full = full_noted (Data n (chunk_of offset bytes fin)) (on_send n (λ l. sent_lane l (chunk_of offset bytes fin)) e) full
-full_put (Control (StreamDataBlocked n m)) e full = full_noted (Told (StreamDataBlocked n m)) (on_send n blocked_lane e) full
-full_put (Control i) e full = full_noted (Told i) e full
-full_put f e full = full
+full_put f e full = grind (arith, nat_tests, full_noted)
 
 full_less : (m : PacketPieces) (k : ℕ) → NoneEmpty m → NoneEmpty (without_first m k (fmap.get m k))
-full_less m k full j is = go (nat_eq j k) (sym (get-without_first m k j) ∙ is)
-  where
-    rest_full : (o : Option (List Piece)) → rest_of o ≡ Some [] → ⊥
-    rest_full None is = none-some [] is
-    rest_full (Some []) is = none-some [] is
-    rest_full (Some (p ∷ [])) is = none-some [] is
-    rest_full (Some (p ∷ q ∷ ps)) is = absurd cc
-
-    go : (b : Bool) → cond b (rest_of (fmap.get m k)) (fmap.get m j) ≡ Some [] → ⊥
-    go true e = rest_full (fmap.get m k) e
-    go false e = full j e
+full_less m k full j is = grind (arith, nat_tests, get-without_first, rest_of, none-some)
 
 full_change : (old : End) (call : Call) (c : Change) (e : End) → Comes old call e c → Full e → Full (changed c e)
 full_change old call (Wanted Uni count) e comes full = full
@@ -106,21 +87,7 @@ none_bare a b (x ∷ h) w (v, run, step) s = each_side (λ e f. Full e → Full 
 -- An end at rest
 
 rest_reads : (l : RecvLane) → TellsNoNews (read_answer l 1) l → is_readable l ≡ false
-rest_reads l quiet = go (read_answer l 1) quiet refl
-  where
-    told_off : (t : Bool) → t ≡ true → (b : Bool) → (not t && b) ≡ false
-    told_off true is b = refl
-    told_off false is b = absurd (false≢true is)
-
-    go : (r : Read) → TellsNoNews r l → read_answer l 1 ≡ r → is_readable l ≡ false
-    go (reads.Bytes n) none is = absurd none
-    go reads.End told is = told_off l.reader_done told _
-    go (reads.Reset code) told is = told_off l.reader_done told _
-    go reads.Wait none is = ap (λ r. not l.reader_done && tells_something r) is ∙ no_and (not l.reader_done)
-      where
-        no_and : (b : Bool) → (b && false) ≡ false
-        no_and true = refl
-        no_and false = refl
+rest_reads l quiet = grind (arith, nat_tests)
 
 pub rest_idles : (e : End) → NoneEmpty e.outstanding → AtRest e → (GoesBesideAck e → ⊥) × IsNextOutstanding e.outstanding 0 None × IsLeast (IsReadable e) 0 None
 rest_idles e full rest = (

@@ -1,9 +1,8 @@
 -- An ACK takes the pieces of each packet in the order in which they stand in its record.
 use Rattle.std.proofs.Common.{◌≡◌, ℕ, suc, ◌+◌, ◌<◌, ◌≤◌, Bool, true, false, cond, ◌&&◌, List, [], ◌∷◌, ◌++◌, map, take, nat_cmp, Option, Some, None, refl, sym, ap, ◌∙◌, subst, inl, inr, arith}
-use Rattle.std.specs.Prelude.{⊤, T, nat_lt, reverse, flat_map, ◌==◌}
+use Rattle.std.specs.Prelude.{⊤, T, reverse, flat_map}
 use Rattle.std.specs.List.{filter}
 use Rattle.std.specs.Ordering.{is_lt}
-use Rattle.std.specs.declared.cmp.Ordering.TheVariants.{Less, Equal, Greater}
 use Rattle.std.specs.FinMap as fmap
 use Rattle.std.specs.FinMap.Entries.{below_all}
 use Rattle.std.proofs.lemmas.Grind.{reverse_onto}
@@ -12,7 +11,7 @@ use Rattle.qs_send.specs.Records.{Among}
 use Rattle.qs_send.specs.declared.piece.Piece.{Piece}
 use Rattle.qs_send.proofs.Carrying.{rest_of, get_same-without_first}
 use Rattle.qs_machine.specs.Ends.{End, Records}
-use Rattle.qs_machine.specs.FrameStep.{AckedPiece, acked_at, held, without_piece, pieces_of, acks, first_acked, named_in, named, acked_numbers, is_named}
+use Rattle.qs_machine.specs.FrameStep.{AckedPiece, acked_at, held, pieces_of, acks, first_acked, named_in, named, acked_numbers}
 use Rattle.qs_machine.proofs.AcksAgain.{held_piece, first_other, piece_list, filter_among, reverse_among, late_stays}
 use Rattle.qs_machine.proofs.Named.{Rises}
 use Rattle.qs_runs.proofs.Lists.{Among_push}
@@ -50,8 +49,7 @@ distinct_filter f [] d = tt
 distinct_filter f (k ∷ ks) d = either (f k) (distinct_filter f ks d.1)
   where
     either : (b : Bool) → Distinct (filter f ks) → Distinct (cond b (k ∷ filter f ks) (filter f ks))
-    either true rest = ((λ a. d.0 (filter_among f k ks a).0), rest)
-    either false rest = rest
+    either b rest = grind (arith, nat_tests, filter_among)
 
 at_least : (low : ℕ) (ks : List ℕ) → Rises low ks → (j : ℕ) → Among j ks → low ≤ j
 at_least low [] r j a = absurd a
@@ -63,23 +61,13 @@ distinct_rise low [] r = tt
 distinct_rise low (k ∷ ks) r = ((λ a. let le = at_least (k + 1) ks r.1 k a in absurd (omega (arith, le))), distinct_rise (k + 1) ks r.1)
 
 and_first : (a b : Bool) → T (a && b) → T a
-and_first true b h = tt
-and_first false b h = absurd h
+and_first a b h = grind (arith, nat_tests)
 
 and_second : (a b : Bool) → T (a && b) → T b
-and_second true b h = h
-and_second false b h = absurd h
+and_second a b h = grind (arith, nat_tests)
 
 less_is : (x y : ℕ) → T (is_lt (nat_cmp x y)) → x < y
-less_is x y h = go (nat_lt x y) refl h
-  where
-    never : (c : Bool) → T (is_lt (cond c Equal Greater)) → ⊥
-    never true h = h
-    never false h = h
-
-    go : (b : Bool) → nat_lt x y ≡ b → T (is_lt (cond b Less (cond (x == y) Equal Greater))) → x < y
-    go true e h = grind (arith, nat_tests, e)
-    go false e h = absurd (never (x == y) h)
+less_is x y h = grind (arith, nat_tests)
 
 rise_after : {X : Type 0} (x : ℕ) (es : List (ℕ × X)) → T (below_all nat_cmp x es) → T (fmap.is_sorted nat_cmp es) → Rises (x + 1) (map (λ e. e.0) es)
 rise_after x [] b s = tt
@@ -95,8 +83,7 @@ distinct_keys m = distinct_rise 0 (fmap.keys m) (rise (fmap.entries m) (fmap.ent
 -- One packet
 
 pub first_same : (late : Bool) (k : ℕ) (p : Piece) (e : End) → fmap.get (held late (first_acked (acked_at late k p) e)) k ≡ rest_of (fmap.get (held late e) k)
-first_same true k p e = ap (λ (m : Records). fmap.get m k) (held_piece true p (without_piece true k e)) ∙ get_same-without_first (held true e) k
-first_same false k p e = ap (λ (m : Records). fmap.get m k) (held_piece false p (without_piece false k e)) ∙ get_same-without_first (held false e) k
+first_same late k p e = grind (arith, nat_tests, held_piece, get_same-without_first)
 
 order_packet : (late : Bool) (k : ℕ) (ps : List Piece) (e : End) → fmap.get (held late e) k ≡ Some ps → InOrder (map (acked_at late k) ps) e
 order_packet late k [] e is = tt
@@ -117,16 +104,14 @@ order_packets late m (k ∷ ks) e d same =
     (order_packets late m ks (acks (pieces_of late m k) e) d.1 (λ j a. left j (λ is. d.0 (subst (λ i. Among i ks) is a)) (fmap.get m k) ∙ same j (inr a)))
   where
     one : (o : Option (List Piece)) → fmap.get (held late e) k ≡ o → InOrder (piece_list late k o) e
-    one None is = tt
-    one (Some ps) is = order_packet late k ps e is
+    one o is = grind (arith, nat_tests, order_packet)
 
     left : (j : ℕ) → (j ≡ k → ⊥) → (o : Option (List Piece)) → fmap.get (held late (acks (piece_list late k o) e)) j ≡ fmap.get (held late e) j
     left j ne None = refl
     left j ne (Some ps) = others_left late k j ps e ne
 
 order_in : (late : Bool) (m : Records) (ranges : List (ℕ × ℕ)) (e : End) → held late e ≡ m → InOrder (named_in late m ranges) e
-order_in late m ranges e is =
-    order_packets late m (acked_numbers m ranges) e (distinct_reverse _ (distinct_filter (is_named ranges) (fmap.keys m) (distinct_keys m))) (λ k a. ap (λ (n : Records). fmap.get n k) is)
+order_in late m ranges e is = grind (arith, nat_tests, order_packets, distinct_reverse, distinct_filter, distinct_keys)
 
 pub order_named : (e : End) (ranges : List (ℕ × ℕ)) → InOrder (named e ranges) e
 order_named e ranges =

@@ -1,11 +1,11 @@
 -- What is acknowledged of control items stays so, and grants and what an end was made with don't fall, across each call of an end.
-use Rattle.std.proofs.Common.{◌≡◌, ℕ, ◌≤◌, Bool, true, false, cond, List, [], ◌∷◌, take, Option, Some, None, refl, sym, ap, ◌∙◌, arith}
-use Rattle.std.specs.Prelude.{max, nat_le}
+use Rattle.std.proofs.Common.{◌≡◌, ℕ, ◌≤◌, Bool, true, cond, List, [], ◌∷◌, take, Option, Some, refl, ap, ◌∙◌, arith}
+use Rattle.std.specs.Prelude.{max}
 use Rattle.std.specs.FinMap as fmap
 use Rattle.std.specs.FinSet as set
 use Rattle.std.specs.Ordering.{nat_cmp, eq_by_cmp}
-use Rattle.std.specs.Cmp.{nat_cmp_total, unsigned_tied}
-use Rattle.std.proofs.lemmas.Bool.{false≢true, eqb-true, cond_both, or_right}
+use Rattle.std.specs.Cmp.{nat_cmp_total}
+use Rattle.std.proofs.lemmas.Bool.{cond_both, or_right}
 use Rattle.std.proofs.lemmas.Bool.Decides.{nat_tests}
 use Rattle.qs_wire.specs.declared.stream_id.Dir.TheVariants.{Bidi, Uni}
 use Rattle.qs_send.specs.declared.piece.Item.{Item}
@@ -30,21 +30,13 @@ abbrev pub ItemsGrow : AckedItems → AckedItems → Type 0
 ItemsGrow a b = (i : Item) → is_done a i ≡ true → is_done b i ≡ true
 
 greatest_reaches : (o : Option ℕ) (v m : ℕ) → reaches o m ≡ true → reaches (greatest o v) m ≡ true
-greatest_reaches None v m is = absurd (false≢true is)
-greatest_reaches (Some k) v m is = grind (arith, nat_tests)
-
-or_zero_reaches : (o : Option ℕ) (v m : ℕ) → reaches o m ≡ true → nat_le m (max (or_zero o) v) ≡ true
-or_zero_reaches None v m is = absurd (false≢true is)
-or_zero_reaches (Some k) v m is = grind (arith, nat_tests)
+greatest_reaches o v m is = grind (arith, nat_tests)
 
 greatest_of_reaches : (values : fmap.FinMap nat_cmp ℕ) (n v k m : ℕ) → reaches (fmap.get values k) m ≡ true → reaches (fmap.get (greatest_of values n v) k) m ≡ true
 greatest_of_reaches values n v k m is = ap (λ o. reaches o m) (fmap.get-insert nat_cmp_total values n (max (or_zero (fmap.get values n)) v) k) ∙ go (eq_by_cmp nat_cmp k n) refl
   where
     go : (b : Bool) → eq_by_cmp nat_cmp k n ≡ b → reaches (cond b (Some (max (or_zero (fmap.get values n)) v)) (fmap.get values k)) m ≡ true
-    go false other = is
-    go true same =
-        let e : k ≡ n = eqb-true k n (sym (unsigned_tied k n) ∙ same) in
-        or_zero_reaches (fmap.get values n) v m (ap (λ j. reaches (fmap.get values j) m) (sym e) ∙ is)
+    go b other = grind (arith, nat_tests)
 
 noted : (j : Item) (e : End) → ItemsGrow e.acked (item_acked j e).acked
 noted (MaxData v) e (MaxData m) is = greatest_reaches e.acked.max_data v m is
@@ -87,8 +79,7 @@ items_frame f e i is = is
 
 pub items_put : (f : Seen) (e : End) → ItemsGrow e.acked (frame_put f e).acked
 unfolding frame_put
-items_put (Control (StreamDataBlocked n m)) e i is = is
-items_put f e i is = is
+items_put f e i is = grind (arith, nat_tests)
 
 -- What an end was made with, its grants and its items
 

@@ -68,10 +68,6 @@ module _ (s : NumberSet) (lo k : ℕ) (le : lo ≤ k) (top : (j : ℕ) → set.c
   kept_by true many j ge under = (let low = end_low many in cut-kept s (lowest_end s) j (run j ge under) (omega (arith, low, ge)))
   kept_by false few j ge under = run j ge under
 
-  floor_by : (b : Bool) (floor : ℕ) → has_too_many s ≡ b → floor ≤ lo → cond b (lowest_end s) floor ≤ lo
-  floor_by true floor many under = end_low many
-  floor_by false floor few under = under
-
 module _ (e : End) (lo k : ℕ) (asks : Bool) (le : lo ≤ k) (below : (j : ℕ) → set.contains e.done j ≡ true → j < k) (run : (j : ℕ) → lo ≤ j → j < k → set.contains e.done j ≡ true) where
   top : (j : ℕ) → set.contains (set.insert e.done k) j ≡ true → j ≤ k
   top j is = elim (insert-cases e.done k j is) [ inl same ↦ omega (arith, same) | inr old ↦ (let lt = below j old in omega (arith, lt)) ]
@@ -82,7 +78,3 @@ module _ (e : End) (lo k : ℕ) (asks : Bool) (le : lo ≤ k) (below : (j : ℕ)
   -- the numbers of the run stay, with the new one
   pub top_run_stays : (j : ℕ) → lo ≤ j → j ≤ k → set.contains (recorded k asks e).done j ≡ true
   top_run_stays = kept_by (set.insert e.done k) lo k le top longer (has_too_many (set.insert e.done k)) refl
-
-  -- and the floor is no higher than the run begins
-  pub floor_stays : e.floor ≤ lo → (recorded k asks e).floor ≤ lo
-  floor_stays = floor_by (set.insert e.done k) lo k le top longer (has_too_many (set.insert e.done k)) e.floor refl

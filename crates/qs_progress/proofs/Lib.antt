@@ -27,7 +27,6 @@ pub mod ComesInRounds
 pub mod InTurns
 pub mod ExclusionsLaps
 pub mod ExclusionsRounds
-pub mod IfAcked
 pub mod Ending
 pub mod ExclusionsEnding
 pub mod Idles

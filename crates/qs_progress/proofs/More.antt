@@ -1,6 +1,5 @@
 -- Where nothing changed but records and what is acknowledged, an end has no more to send than it had.
-use Rattle.std.proofs.Common.{◌≡◌, ℕ, ◌<◌, ◌≤◌, true, false, Option, Some, None, refl, sym, ap, ◌∙◌, subst, arith, inl, inr}
-use Rattle.std.specs.FinMap as fmap
+use Rattle.std.proofs.Common.{◌≡◌, ℕ, ◌<◌, ◌≤◌, true, false, Option, Some, refl, sym, ap, ◌∙◌, subst, arith, inl, inr}
 use Rattle.std.specs.FinSet as set
 use Rattle.std.proofs.lemmas.Bool.{true≢false}
 use Rattle.std.proofs.lemmas.Bool.Decides.{nat_tests}
@@ -18,7 +17,6 @@ use Rattle.qs_machine.specs.Due.{IsCurrent, IsAcked, IsCovered, IsDue, StreamGoe
 use Rattle.qs_machine.proofs.TableLaws.{value, total_le}
 use Rattle.qs_rest.specs.Rest.{HasMore}
 use Rattle.qs_rest.proofs.ItemParts.{acked_or_not}
-use Rattle.qs_progress.specs.Score.{reaches}
 use Rattle.qs_progress.specs.Outstanding.{IsIn, IsReached}
 use Rattle.qs_progress.proofs.Items.{ItemsGrow}
 use Rattle.qs_progress.proofs.Outstanding.{StayIn, reached_stays}
@@ -27,20 +25,8 @@ use Rattle.qs_progress.proofs.Undone.{IsUndone, unless}
 use Rattle.qs_progress.proofs.Alike.{Alike, alike_at, alike_back}
 use Rattle.qs_progress.proofs.Steps.{Quiet, IsReady, current_undone}
 
-reaches_it : (o : Option ℕ) (m : ℕ) → o ≡ Some m → reaches o m ≡ true
-reaches_it o m is = ap (λ x. reaches x m) is ∙ (grind (arith, nat_tests))
-
 acked_reached : (e : End) (i : Item) → IsAcked e i → IsReached e (Told i)
-acked_reached e (MaxData m) is = reaches_it e.acked.max_data m is
-acked_reached e (MaxStreamData n m) is = reaches_it (fmap.get e.acked.max_stream_data n) m is
-acked_reached e (MaxStreams Bidi m) is = reaches_it e.acked.bidi_streams m is
-acked_reached e (MaxStreams Uni m) is = reaches_it e.acked.uni_streams m is
-acked_reached e (ResetStream n code size) is = is
-acked_reached e (StopSending n code) is = is
-acked_reached e (DataBlocked m) is = reaches_it e.acked.data_blocked m is
-acked_reached e (StreamDataBlocked n m) is = reaches_it (fmap.get e.acked.stream_data_blocked n) m is
-acked_reached e (StreamsBlocked Bidi m) is = reaches_it e.acked.bidi_blocked m is
-acked_reached e (StreamsBlocked Uni m) is = reaches_it e.acked.uni_blocked m is
+acked_reached e i is = grind (arith, nat_tests)
 
 module _ (a b : End) (quiet : Quiet a b) (grow : ItemsGrow a.acked b.acked) (ready_a : IsReady a) (ready_b : IsReady b) (keeps : (k : ℕ) (p : Piece) → IsIn a.outstanding k p → IsUndone a p → IsIn b.outstanding k p) where
   recv_at : (n : ℕ) (l : RecvLane) → lookup b.recvs n ≡ Some l → lookup a.recvs n ≡ Some l
@@ -59,12 +45,10 @@ module _ (a b : End) (quiet : Quiet a b) (grow : ItemsGrow a.acked b.acked) (rea
       omega (arith, more, less)
     where
       up : (n : ℕ) (o : Option SendLane) → lookup a.sends n ≡ o → value (λ (l : SendLane). l.sent_end) (lookup a.sends n) ≤ value (λ (l : SendLane). l.sent_end) (lookup b.sends n)
-      up n None is = rw is (omega arith)
-      up n (Some l) is = let (m, there, al) = alike_at a.sends b.sends quiet.sends n l is in rw (is, there) (omega (arith, al.sent_end))
+      up n o is = grind (arith, nat_tests)
 
       down : (n : ℕ) (o : Option SendLane) → lookup b.sends n ≡ o → value (λ (l : SendLane). l.sent_end) (lookup b.sends n) ≤ value (λ (l : SendLane). l.sent_end) (lookup a.sends n)
-      down n None is = rw is (omega arith)
-      down n (Some m) is = let (l, at, al) = send_at n m is in rw (is, at) (omega (arith, al.sent_end))
+      down n o is = grind (arith, nat_tests)
 
   current_back : (i : Item) → IsCurrent b i → IsCurrent a i
   current_back (MaxData m) (is, more) = (is ∙ ap (λ (x : End). x.granted) quiet.rest, subst (λ s. s.conn_window < m) (ap (λ (x : End). x.settings) quiet.rest) more)

@@ -6,13 +6,13 @@ use Rattle.std.specs.FinMap as fmap
 use Rattle.std.specs.FinSet as set
 use Rattle.std.specs.Ordering.{nat_cmp}
 use Rattle.std.specs.Cmp.{nat_cmp_total}
-use Rattle.std.proofs.lemmas.Bool.{cases_eq, cond_both, or_left, or_right, both_ways}
+use Rattle.std.proofs.lemmas.Bool.{cases_eq, cond_both, or_left, or_right}
 use Rattle.std.proofs.lemmas.Bool.Decides.{nat_tests}
 use Rattle.std.proofs.lemmas.Option.{same_Some}
 use Rattle.qs_ranges.specs.Numbers.{contains-with_range, is_within}
 use Rattle.qs_wire.specs.declared.stream_id.Dir.TheVariants.{Bidi, Uni}
 use Rattle.qs_recv.specs.Lane.{after_read}
-use Rattle.qs_send.specs.Lane.{SendLane, reset_refusal, broken_off, first_code, stop_taken, allow_lane, acked_lane, reset_acked_lane, sent_lane, blocked_lane, new_lane as new_send_lane}
+use Rattle.qs_send.specs.Lane.{SendLane, stop_taken, allow_lane, acked_lane, reset_acked_lane, sent_lane, blocked_lane, new_lane as new_send_lane}
 use Rattle.qs_send.specs.Records.{Among, IsCarried, PacketPieces}
 use Rattle.qs_send.specs.declared.parts.Chunk.{Chunk}
 use Rattle.qs_send.specs.declared.piece.Item.TheVariants.{MaxData, MaxStreamData, MaxStreams, ResetStream, StopSending, DataBlocked, StreamDataBlocked, StreamsBlocked}
@@ -74,8 +74,7 @@ in_opened n e =
     cond_both (is_uni n && not (is_own e n)) e.sends _ (StayIn e.sends) (λ _. in_same e.sends) (λ _. kept_open AcksStay stay_same e.sends n (λ m. new_send_lane m (first_send_limit e n) e.settings.send_buffer)))
 
 pub stop_stays : (answers : Bool) (code : ℕ) (l : SendLane) → AcksStay l (stop_taken answers l code)
-stop_stays true code l = cond_both (is_some (reset_refusal l)) l (record l { stopped = first_code l.stopped code }) (AcksStay l) (λ _. stay_same l) (λ _. stay_same l)
-stop_stays false code l = cond_both (is_some (reset_refusal l)) l (record (broken_off l code) { stopped = first_code l.stopped code }) (AcksStay l) (λ _. stay_same l) (λ _. stay_same l)
+stop_stays answers code l = grind (arith, nat_tests)
 
 pub in_piece : (p : Piece) (e : End) → StayIn e.sends (piece_acked p e).sends
 in_piece (Data n c) e = in_edited e.sends n (λ l. acked_lane l c) (λ l. (λ q is. contains-with_range l.acked c.offset (c.offset + c.len) q ∙ or_left _ _ is, λ is. or_left l.fin_acked c.fin is, λ is. is))
@@ -126,12 +125,10 @@ homes_after a b x h late p is = home_stays {R = HalfAfter} a.sends b.sends x.sen
 -- What an ACK takes is acknowledged
 
 pub the_one : {X : Type 0} (o : Option X) → is_some o ≡ true → (x : X) × (o ≡ Some x)
-the_one None none = absurd (both_ways false refl none)
-the_one (Some x) some = (x, refl)
+the_one o none = grind (arith, nat_tests)
 
 greatest_now : (o : Option ℕ) (m : ℕ) → reaches (greatest o m) m ≡ true
-greatest_now None m = grind (arith, nat_tests)
-greatest_now (Some k) m = grind (arith, nat_tests)
+greatest_now o m = grind (arith, nat_tests)
 
 greatest_of_now : (values : fmap.FinMap nat_cmp ℕ) (n m : ℕ) → reaches (fmap.get (greatest_of values n m) n) m ≡ true
 greatest_of_now values n m = ap (λ o. reaches o m) (get_new values n (max (or_zero (fmap.get values n)) m)) ∙ (grind (arith, nat_tests))
@@ -168,13 +165,10 @@ module _ (k : ℕ) (p : Piece) where
   Stays e = IsIn e.outstanding k p ⊎ IsReached e p
 
   alike : (a b : End) → b.outstanding ≡ a.outstanding → StayIn a.sends b.sends → ItemsGrow a.acked b.acked → Stays a → Stays b
-  alike a b same kept grow (inl here) = inl (subst (λ m. IsIn m k p) (sym same) here)
-  alike a b same kept grow (inr reached) = inr (reached_stays a b kept grow p reached)
+  alike a b same kept grow h = grind (arith, nat_tests, reached_stays)
 
   left_in : (m : PacketPieces) (first : Piece) (rest : List Piece) → fmap.get m k ≡ rest_of (Some (first ∷ rest)) → Among p (first ∷ rest) → (p ≡ first) ⊎ IsIn m k p
-  left_in m first rest is (inl e) = inl e
-  left_in m first [] is (inr none) = absurd none
-  left_in m first (q ∷ qs) is (inr later) = inr (q ∷ qs, is, later)
+  left_in m first rest is h = grind (arith, nat_tests)
 
   first_out : (late : Bool) (j : ℕ) (r : Piece) (rest : List Piece) (e : End) → HasHome e.sends r → fmap.get (held late e) j ≡ Some (r ∷ rest) → IsIn e.outstanding k p → Stays (first_acked (acked_at late j r) e)
   first_out true j r rest e home is here = inl (subst (λ m. IsIn m k p) (sym (held_piece false r (without_piece true j e))) here)
@@ -284,8 +278,7 @@ module _ (k : ℕ) (p : Piece) where
 -- In every run
 
 written_home : (o : Option SendLane) (c : Chunk) → IsWritten o c → is_some o ≡ true
-written_home None c h = absurd h
-written_home (Some l) c h = refl
+written_home o c h = grind (arith, nat_tests)
 
 pub homes_of : (e : End) → SentWasWritten e → AllWithin e → Homes e
 homes_of e sent within late (Data n c) is = written_home (lookup e.sends n) c (sent late (Data n c) is)

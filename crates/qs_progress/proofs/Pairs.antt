@@ -1,4 +1,5 @@
 -- Two laps in a row, of which the second doesn't begin at rest, raise a score.
+use Rattle.std.proofs.lemmas.Bool.Decides.{nat_tests}
 use Rattle.std.proofs.Common.{◌≡◌, ℕ, ◌+◌, ◌<◌, ◌≤◌, Bool, true, false, not, ◌&&◌, List, [], ◌∷◌, ◌⊎◌, length, Some, None, is_some, refl, sym, ap, ◌∙◌, subst, arith, inl, inr}
 use Rattle.std.proofs.lemmas.Bool.{cases_lt, true≢false}
 use Rattle.std.proofs.lemmas.Option.{none-some, slice_get_within}
@@ -8,7 +9,6 @@ use Rattle.qs_recv.specs.Lane.{RecvLane}
 use Rattle.qs_recv.specs.News.{is_readable}
 use Rattle.qs_send.specs.Records.{Among}
 use Rattle.qs_send.specs.declared.piece.Piece.{Piece}
-use Rattle.qs_send.specs.declared.piece.Piece.TheVariants.{Data, Told}
 use Rattle.qs_calls.specs.declared.settings.Settings.{Settings}
 use Rattle.qs_calls.specs.declared.event.Side.{Side}
 use Rattle.qs_calls.specs.declared.event.Side.TheVariants.{A, B}
@@ -72,8 +72,7 @@ next_forms old ready =
     }
 
 pub stood_in : (mine : Packets) (k : ℕ) (p : Piece) → PieceOf mine k p → k < length mine
-stood_in mine k (Data n c) (bytes, (fs, at, among), same) = slice_get_within mine k fs at
-stood_in mine k (Told i) (fs, at, among) = slice_get_within mine k fs at
+stood_in mine k p h = grind (arith, nat_tests, slice_get_within)
 
 module _ (a b : Settings) where
   module _ (s : Side) where
@@ -100,8 +99,7 @@ module _ (a b : Settings) where
         }
       where
         counted : first_count (at m).peer Bidi ≤ known_count (at m) Bidi → first_count (at m).peer Uni ≤ known_count (at m) Uni → (d : Dir) → first_count (at m).peer d ≤ known_count (at m) d
-        counted bidi uni Bidi = bidi
-        counted bidi uni Uni = uni
+        counted bidi uni d = grind (arith, nat_tests)
 
     -- what comes of one happening: numbers and scores don't fall, nor what is acknowledged
     record Moves (e f : End) : Type 0 where

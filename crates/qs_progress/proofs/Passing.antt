@@ -1,5 +1,6 @@
 -- A packet that is made, and taken in whole at once: what the other end is owed, and what it hears.
-use Rattle.std.proofs.Common.{◌≡◌, ℕ, ◌+◌, ◌<◌, ◌≤◌, true, false, ◌||◌, List, [], ◌∷◌, ◌++◌, ◌⊎◌, Option, Some, refl, sym, ap, ◌∙◌, subst, arith, inl, inr}
+use Rattle.std.proofs.lemmas.Bool.Decides.{nat_tests}
+use Rattle.std.proofs.Common.{◌≡◌, ℕ, ◌+◌, ◌<◌, ◌≤◌, true, false, ◌||◌, List, [], ◌∷◌, ◌⊎◌, Option, Some, refl, sym, ap, ◌∙◌, subst, arith, inl, inr}
 use Rattle.std.specs.Prelude.{⊤}
 use Rattle.std.specs.List.{AllByRecursion}
 use Rattle.std.specs.FinMap as fmap
@@ -7,10 +8,9 @@ use Rattle.std.specs.FinSet as set
 use Rattle.std.proofs.lemmas.Bool.{cases_eq, cond_both, false≢true, or_left, or_right}
 use Rattle.qs_wire.specs.Layout.{FrameValue, ack}
 use Rattle.qs_wire.specs.Grammar.{Fits}
-use Rattle.qs_wire.specs.declared.stream_id.Dir.TheVariants.{Uni}
 use Rattle.qs_send.specs.Lane.{sent_lane, blocked_lane}
 use Rattle.qs_send.specs.Records.{Among}
-use Rattle.qs_send.specs.declared.piece.Item.TheVariants.{MaxStreamData, MaxStreams, ResetStream, StopSending, StreamDataBlocked, StreamsBlocked}
+use Rattle.qs_send.specs.declared.piece.Item.TheVariants.{StreamDataBlocked}
 use Rattle.qs_send.specs.declared.piece.Piece.{Piece}
 use Rattle.qs_send.specs.declared.piece.Piece.TheVariants.{Data, Told}
 use Rattle.qs_machine.specs.Ends.{End, is_own, opens, opened_by_peer, on_send}
@@ -19,7 +19,7 @@ use Rattle.qs_machine.specs.Seen.{Seen, Ack, Stream, Control, seen, seen_all, an
 use Rattle.qs_machine.specs.FrameStep.{AckedPiece, frame_taken, frames_taken, without_piece, acks, first_acked, piece_acked, named, is_named, NoFault}
 use Rattle.qs_machine.specs.Recording.{recorded}
 use Rattle.qs_machine.specs.Ways.{is_ack}
-use Rattle.qs_machine.specs.Lawful.{MayAck, MayPut, Fills, frame_put, noted, pieces_so_far, chunk_of}
+use Rattle.qs_machine.specs.Lawful.{MayAck, MayPut, Fills, frame_put, noted, chunk_of}
 use Rattle.qs_machine.specs.Making.{NamesMost}
 use Rattle.qs_machine.specs.Standing.{IsSound}
 use Rattle.qs_machine.specs.Repeats.{SentWasWritten}
@@ -35,9 +35,7 @@ use Rattle.qs_progress.proofs.Kept.{top_run_stays}
 -- What frames leave
 
 piece_due : (p : Piece) (e : End) → (piece_acked p e).ack_due ≡ e.ack_due
-piece_due (Told (MaxStreams Uni m)) e = refl
-piece_due (Told (StreamsBlocked Uni m)) e = refl
-piece_due p e = refl
+piece_due p e = grind (arith, nat_tests)
 
 acks_due : (ps : List AckedPiece) (e : End) → (acks ps e).ack_due ≡ e.ack_due
 unfolding acks
@@ -49,14 +47,7 @@ opened_due n e = cond_both (is_own e n) e (opens n e) (λ x. x.ack_due ≡ e.ack
 
 frame_due : (f : Seen) (e : End) → (frame_taken f e).ack_due ≡ e.ack_due
 unfolding frame_taken
-frame_due (Ack largest ranges) e = acks_due (named e ranges) e
-frame_due (Stream n offset bytes fin) e = opened_due n e
-frame_due (Control (MaxStreamData n m)) e = opened_due n e
-frame_due (Control (MaxStreams Uni m)) e = refl
-frame_due (Control (ResetStream n code size)) e = opened_due n e
-frame_due (Control (StopSending n code)) e = opened_due n e
-frame_due (Control (StreamDataBlocked n m)) e = opened_due n e
-frame_due f e = refl
+frame_due f e = grind (arith, nat_tests, acks_due, opened_due)
 
 -- whether an ACK is due, and which numbers are kept
 abbrev Hears : End → End → Type 0
@@ -73,11 +64,7 @@ frames_hear (f ∷ fs) e =
 
 module _ (k : ℕ) (p : Piece) where
   noted_at : (q : Piece) (e : End) → IsIn (noted q e).outstanding k p → IsIn e.outstanding k p ⊎ (k ≡ e.next)
-  noted_at q e (ps, at, among) =
-      elim (cases_eq k e.next) [
-        | inl same ↦ inr same
-        | inr ne ↦ inl (ps, sym (get_other e.outstanding e.next (pieces_so_far e e.next ++ q ∷ []) k ne) ∙ at, among)
-      ]
+  noted_at q e h = grind (arith, nat_tests, cases_eq, get_other)
 
   put_at : (f : Seen) (e : End) → IsIn (frame_put f e).outstanding k p → IsIn e.outstanding k p ⊎ (k ≡ e.next)
   unfolding frame_put
@@ -107,9 +94,7 @@ HasAck old fs = (f : Seen) × (at : End) × Among f fs × (is_ack f ≡ true) ×
 
 put_due : (f : Seen) (e : End) → (frame_put f e).ack_due ≡ e.ack_due ⊎ (is_ack f ≡ true)
 unfolding frame_put
-put_due (Ack largest ranges) e = inr refl
-put_due (Control (StreamDataBlocked n m)) e = inl refl
-put_due f e = inl refl
+put_due f e = grind (arith, nat_tests)
 
 fills_due : (old : End) (fs : List Seen) (e last : End) → Fills old e fs last → (last.ack_due ≡ e.ack_due) ⊎ HasAck old fs
 fills_due old [] e last is = inl (ap (λ (x : End). x.ack_due) is)
@@ -120,8 +105,7 @@ fills_due old (f ∷ fs) e last (may, rest) =
     ]
   where
     by : (f : Seen) → MayPut old e f → MayBe old e f
-    by (Ack largest ranges) may = may
-    by f may = tt
+    by f may = grind (arith, nat_tests)
 
 -- The run of the largest number
 
@@ -163,8 +147,7 @@ pub record Owes (lo hi : ℕ) (e f : End) : Type 0 where
 
 -- a record that has a piece isn't bare
 pub not_bare : (o : Option (List Piece)) (ps : List Piece) (p : Piece) → o ≡ Some ps → Among p ps → IsBare o → ⊥
-not_bare o [] p is among bare = among
-not_bare o (q ∷ ps) p is among bare = subst IsBare is bare
+not_bare o ps p is among bare = grind (arith, nat_tests)
 
 -- nothing is outstanding
 abbrev pub IsClear : End → Type 0

@@ -1,15 +1,14 @@
 -- What is done stays done: a score never falls.
-use Rattle.std.proofs.Common.{◌≡◌, ℕ, ◌+◌, ◌*◌, ◌≤◌, ◌∷◌, true, not, cond, Option, Some, None, is_some, refl, sym, ap, ◌∙◌, subst, arith}
+use Rattle.std.proofs.lemmas.Bool.Decides.{nat_tests}
+use Rattle.std.proofs.Common.{◌≡◌, ℕ, ◌+◌, ◌*◌, ◌≤◌, true, not, cond, is_some, subst, arith}
 use Rattle.qs_wire.specs.declared.stream_id.Dir.{Dir}
 use Rattle.qs_wire.specs.declared.stream_id.Dir.TheVariants.{Bidi, Uni}
 use Rattle.qs_recv.specs.Lane.{RecvLane}
 use Rattle.qs_send.specs.Lane.{SendLane}
 use Rattle.qs_send.specs.declared.piece.Item.{Item}
 use Rattle.qs_send.specs.declared.piece.Item.TheVariants.{MaxData, MaxStreamData, MaxStreams, StopSending, DataBlocked, StreamDataBlocked, StreamsBlocked}
-use Rattle.qs_calls.specs.Settings.{limits_of}
 use Rattle.qs_calls.specs.declared.settings.Settings.{Settings}
 use Rattle.qs_calls.specs.declared.event.Side.{Side}
-use Rattle.qs_machine.specs.Tables.{Tables, lookup}
 use Rattle.qs_machine.specs.Ends.{End, AckedItems, is_uni, is_own, is_own_by, first_send_limit, first_window, first_window_by}
 use Rattle.qs_machine.specs.Credit.{granted_streams, first_grant}
 use Rattle.qs_machine.specs.Due.{known_count}
@@ -18,7 +17,7 @@ use Rattle.qs_machine.proofs.TableLaws.{value, total_le}
 use Rattle.qs_machine.proofs.TablesAfter.{KeptIn}
 use Rattle.qs_machine.proofs.EachHalf.{sends_kept, recvs_kept}
 use Rattle.qs_machine.proofs.Rising.{rises_call}
-use Rattle.qs_runs.specs.Logs.{Happening, History, other}
+use Rattle.qs_runs.specs.Logs.{Happening, History}
 use Rattle.qs_runs.specs.Worlds.{World, end_of, WorldStep, Run}
 use Rattle.qs_runs.proofs.Runs.{run_keeps, settings_stay}
 use Rattle.qs_runs.proofs.Stays.{each_side}
@@ -90,17 +89,7 @@ module _ (a b : End) (g : Goes a b) where
       omega (arith, sent, got)
 
   pub halves_grow : halves a ≤ halves b
-  halves_grow =
-      let sends = total_le (λ (l : SendLane). 1) (λ (l : SendLane). 1) a.sends b.sends (λ n. one_kept SentGrows a.sends b.sends g.sends n) in
-      let recvs = total_le (λ (l : RecvLane). 1) (λ (l : RecvLane). 1) a.recvs b.recvs (λ n. one_kept GotGrows a.recvs b.recvs g.recvs n) in
-      omega (arith, sends, recvs)
-    where
-      one_kept : {X : Type 0} (R : X → X → Type 0) (t u : Tables X) → KeptIn R t u → (n : ℕ) → value (λ (x : X). 1) (lookup t n) ≤ value (λ (x : X). 1) (lookup u n)
-      one_kept {X} R t u kept n = go (lookup t n) refl
-        where
-          go : (o : Option X) → lookup t n ≡ o → value (λ (x : X). 1) o ≤ value (λ (x : X). 1) (lookup u n)
-          go None is = omega arith
-          go (Some x) is = subst (λ o. 1 ≤ value (λ (x : X). 1) o) (sym (kept n x is).1) (le_same 1)
+  halves_grow = grind (arith, nat_tests, total_le, value, le_same)
 
   pub type_grows : (kind : ℕ) → type_marks a kind ≤ type_marks b kind
   type_grows kind = sum_grows (λ i. stream_marks a (i * 4 + kind)) (λ i. stream_marks b (i * 4 + kind)) 0 (halves a) (halves b) halves_grow (λ i. stream_grows (i * 4 + kind))
@@ -160,17 +149,14 @@ goes_call old call answer new step peer =
     }
   where
     each_dir : (f g : Dir → ℕ) → f Bidi ≤ g Bidi → f Uni ≤ g Uni → (d : Dir) → f d ≤ g d
-    each_dir f g bidi uni Bidi = bidi
-    each_dir f g bidi uni Uni = uni
+    each_dir f g bidi uni d = grind (arith, nat_tests)
 
 score_call : (old : End) (call : Call) (answer : CallAnswer call) (new : End) → EndStep old call answer new → new.peer ≡ old.peer → score old ≤ score new
 score_call old call answer new step peer = score_grows old new (goes_call old call answer new step peer)
 
 -- the limits that an end was told are the true ones, which don't change
 pub peer_stays : (a b : Settings) (h : History) (v w : World) (x : Happening) → Run a b h v → WorldStep h v x w → (s : Side) → KnowsFirstLimits v s → (end_of w s).peer ≡ (end_of v s).peer
-peer_stays a b h v w x run step s told =
-    first_limits_stay a b h v w x run step s told
-    ∙ ap limits_of (settings_stay a b h v w x (run_keeps a b h v run) (run_keeps a b (x ∷ h) w (v, run, step)) (other s)) ∙ sym told
+peer_stays a b h v w x run step s told = grind (arith, nat_tests, first_limits_stay, settings_stay, run_keeps)
 
 pub what_is_done_stays : WhatIsDoneStays
 what_is_done_stays a b h v w x run step s told =

@@ -1,26 +1,28 @@
 -- In every run both halves of a bidirectional stream of the peer are open or neither, and a half that a STOP_SENDING came for is reset, unless
 -- its owner answers it.
-use Rattle.std.proofs.Common.{◌≡◌, ℕ, ◌%◌, ◌/◌, true, false, not, ◌&&◌, cond, List, [], ◌∷◌, ◌⊎◌, take, option_map, Option, Some, None, is_some, refl, sym, ap, ◌∙◌, subst, inl, inr}
-use Rattle.std.specs.Prelude.{⊤, nat_le}
+use Rattle.std.proofs.lemmas.Bool.Decides.{nat_tests}
+use Rattle.std.proofs.Common.{arith}
+use Rattle.std.proofs.Common.{◌≡◌, ℕ, ◌%◌, ◌/◌, true, false, not, ◌&&◌, List, [], ◌∷◌, ◌⊎◌, take, option_map, Option, Some, None, is_some, refl, sym, ap, ◌∙◌, subst, inl, inr}
+use Rattle.std.specs.Prelude.{⊤}
 use Rattle.std.proofs.lemmas.Bool.{cases_eq, cond_both, false≢true}
 use Rattle.std.proofs.lemmas.Option.{slice_get-map}
 use Rattle.qs_wire.specs.declared.stream_id.Dir.TheVariants.{Uni}
-use Rattle.qs_recv.specs.Lane.{RecvLane, after_read, stop, stop_and_discard, raise, set_window, take_stream, take_reset, new_lane as new_recv_lane}
-use Rattle.qs_send.specs.Lane.{SendLane, reset_refusal, broken_off, first_code, stop_taken, allow_lane, write_lane, finish_lane, reset_lane, acked_lane, reset_acked_lane, sent_lane, blocked_lane, buffer_lane, new_lane as new_send_lane}
-use Rattle.qs_send.specs.declared.piece.Item.TheVariants.{MaxData, MaxStreamData, MaxStreams, ResetStream, StopSending, StreamDataBlocked, StreamsBlocked}
+use Rattle.qs_recv.specs.Lane.{RecvLane, after_read, stop, stop_and_discard, raise, set_window}
+use Rattle.qs_send.specs.Lane.{SendLane, reset_refusal, broken_off, first_code, stop_taken, allow_lane, write_lane, finish_lane, reset_lane, buffer_lane, new_lane as new_send_lane}
+use Rattle.qs_send.specs.declared.piece.Item.TheVariants.{MaxData}
 use Rattle.qs_send.specs.declared.piece.Piece.{Piece}
-use Rattle.qs_send.specs.declared.piece.Piece.TheVariants.{Data, Told}
+use Rattle.qs_send.specs.declared.piece.Piece.TheVariants.{Told}
 use Rattle.qs_calls.specs.declared.settings.Settings.{Settings}
 use Rattle.qs_calls.specs.declared.settings.Tuning.{Tuning}
 use Rattle.qs_calls.specs.declared.settings.PeerLimits.{PeerLimits}
 use Rattle.qs_calls.specs.declared.event.Side.{Side}
 use Rattle.qs_calls.specs.declared.event.Side.TheVariants.{A}
 use Rattle.qs_machine.specs.Tables.{Tables, table, lookup, updated, open_to, no_streams}
-use Rattle.qs_machine.specs.Ends.{End, is_own, is_own_by, is_uni, on_recv, opens, opened_by_peer, first_send_limit, first_window}
+use Rattle.qs_machine.specs.Ends.{End, is_own, is_own_by, is_uni, on_recv, opens, opened_by_peer, first_send_limit}
 use Rattle.qs_machine.specs.Raising.{knows_limits, type_allowed, limits_raised}
-use Rattle.qs_machine.specs.Seen.{Seen, Ack, Stream, Control}
+use Rattle.qs_machine.specs.Seen.{Seen}
 use Rattle.qs_machine.specs.FrameStep.{AckedPiece, frame_taken, acks, first_acked, piece_acked, without_piece, named}
-use Rattle.qs_machine.specs.Lawful.{frame_put, chunk_of}
+use Rattle.qs_machine.specs.Lawful.{frame_put}
 use Rattle.qs_machine.specs.Setting.{Grant, SendBuffer, StreamWindow}
 use Rattle.qs_machine.specs.EndStep.{Call, Answer as CallAnswer, EndStep}
 use Rattle.qs_machine.proofs.EveryCall.{Change, changed, Comes, relates, Wanted, Opened, Written, Finished, WasReset, Stopped, Forgotten, WasRead, Raised, WasSet, Took, Acked, Put, Settled}
@@ -92,11 +94,7 @@ lane_stops : (code : ℕ) (l : SendLane) → IsReset l → IsReset (stop_taken f
 lane_stops code l h = cond_both (is_some (reset_refusal l)) l (record (broken_off l code) { stopped = first_code l.stopped code }) IsReset (λ _. h) (λ _ told. refl)
 
 reset_piece : (p : Piece) (e : End) → AllReset e.sends → AllReset (piece_acked p e).sends
-reset_piece (Data n c) e all = reset_updated e.sends n (λ l. acked_lane l c) (λ l h. h) all
-reset_piece (Told (ResetStream n code size)) e all = reset_updated e.sends n reset_acked_lane (λ l h. h) all
-reset_piece (Told (MaxStreams Uni m)) e all = all
-reset_piece (Told (StreamsBlocked Uni m)) e all = all
-reset_piece (Told i) e all = all
+reset_piece p e all = grind (arith, nat_tests, reset_updated)
 
 reset_acks : (ps : List AckedPiece) (e : End) → AllReset e.sends → AllReset (acks ps e).sends
 unfolding acks
@@ -105,21 +103,11 @@ reset_acks (a ∷ ps) e all = reset_acks ps (first_acked a e) (reset_piece a.pie
 
 reset_frame : (f : Seen) (e : End) → e.tuning.answers_stops ≡ false → AllReset e.sends → AllReset (frame_taken f e).sends
 unfolding frame_taken
-reset_frame (Ack largest ranges) e off all = reset_acks (named e ranges) e all
-reset_frame (Stream n offset bytes fin) e off all = reset_opened n e all
-reset_frame (Control (MaxStreamData n m)) e off all = reset_updated (opened_by_peer n e).sends n (λ l. allow_lane l m) (λ l h. h) (reset_opened n e all)
-reset_frame (Control (MaxStreams Uni m)) e off all = all
-reset_frame (Control (ResetStream n code size)) e off all = reset_opened n e all
-reset_frame (Control (StopSending n code)) e off all =
-    reset_updated (opened_by_peer n e).sends n (λ l. stop_taken e.tuning.answers_stops l code) (λ l h. subst (λ w. IsReset (stop_taken w l code)) (sym off) (lane_stops code l h)) (reset_opened n e all)
-reset_frame (Control (StreamDataBlocked n m)) e off all = reset_opened n e all
-reset_frame f e off all = all
+reset_frame f e off all = grind (arith, nat_tests, reset_acks, reset_opened, reset_updated, lane_stops)
 
 reset_put : (f : Seen) (e : End) → AllReset e.sends → AllReset (frame_put f e).sends
 unfolding frame_put
-reset_put (Stream n offset bytes fin) e all = reset_updated e.sends n (λ l. sent_lane l (chunk_of offset bytes fin)) (λ l h. h) all
-reset_put (Control (StreamDataBlocked n m)) e all = reset_updated e.sends n blocked_lane (λ l h. h) all
-reset_put f e all = all
+reset_put f e all = grind (arith, nat_tests, reset_updated)
 
 abbrev Resets : End → End → Type 0
 Resets a b = (b.tuning ≡ a.tuning) × (a.tuning.answers_stops ≡ false → AllReset a.sends → AllReset b.sends)
@@ -128,19 +116,7 @@ resets_twice : (a b c : End) → Resets a b → Resets b c → Resets a c
 resets_twice a b c x y = (y.0 ∙ x.0, λ off all. y.1 (ap (λ (t : Tuning). t.answers_stops) x.0 ∙ off) (x.1 off all))
 
 resets_change : (old : End) (call : Call) (c : Change) (e : End) → Comes old call e c → Resets e (changed c e)
-resets_change old call (Wanted Uni count) e comes = (refl, λ off all. all)
-resets_change old call (Opened n) e comes = (refl, λ off all. reset_opens n e all)
-resets_change old call (Written n bytes l) e comes = (refl, λ off all. reset_updated e.sends n (λ m. write_lane m bytes) (λ m h. h) all)
-resets_change old call (Finished n) e comes = (refl, λ off all. reset_updated e.sends n finish_lane (λ m h. h) all)
-resets_change old call (WasReset n code) e comes = (refl, λ off all. reset_updated e.sends n (λ m. reset_lane m code) (lane_resets code) all)
-resets_change old call (Raised p) e comes = (refl, λ off all. reset_raised p e all)
-resets_change old call (WasSet (SendBuffer n size)) e comes = (refl, λ off all. reset_updated e.sends n (λ m. buffer_lane m size) (λ m h. h) all)
-resets_change old call (WasSet (Grant Uni n)) e comes = (refl, λ off all. all)
-resets_change old call (WasSet (StreamWindow n w)) e comes = (refl, λ off all. all)
-resets_change old call (Took f) e comes = (ap (λ (x : End). x.tuning) (frame_leaves f e), λ off all. reset_frame f e off all)
-resets_change old call (Acked count ranges) e comes = (ap (λ (x : End). x.tuning) (acks_leave (take count (named e ranges)) e), λ off all. reset_acks (take count (named e ranges)) e all)
-resets_change old call (Put f) e comes = (ap (λ (x : End). x.tuning) (put_leaves f e), λ off all. reset_put f e all)
-resets_change old call c e comes = (refl, λ off all. all)
+resets_change old call c e comes = grind (arith, nat_tests, reset_opens, reset_updated, lane_resets, reset_raised, frame_leaves, reset_frame, acks_leave, reset_acks, put_leaves, reset_put)
 
 resets_call : (old : End) (call : Call) (answer : CallAnswer call) (new : End) → EndStep old call answer new → Resets old new
 resets_call old call answer new step = relates Resets (λ e. (refl, λ off all. all)) resets_twice old call (resets_change old call) answer new step
@@ -172,51 +148,27 @@ was_edited : (t : Tables RecvLane) (n : ℕ) (f : RecvLane → RecvLane) (m : �
 was_edited t n f m = go (lookup t n) refl
   where
     go : (o : Option RecvLane) → lookup t n ≡ o → open_in (updated t n f o) m → open_in t m
-    go None is h = h
-    go (Some x) is h = elim (cases_eq m n) [ inl e ↦ ap is_some (ap (lookup t) e ∙ is) | inr ne ↦ ap is_some (sym (lookup_other t n m (f x) ne)) ∙ h ]
+    go o is h = grind (arith, nat_tests, cases_eq, lookup_other)
 
 -- a receiving half of the peer's bidirectional stream that is open was so, or the sending half is open too
 abbrev Opens : End → End → Type 0
 Opens e f = (b : ℕ) → is_own e b ≡ false → is_uni b ≡ false → open_in f.recvs b → open_in e.recvs b ⊎ open_in f.sends b
 
 opens_both : (n : ℕ) (e : End) → Opens e (opens n e)
-opens_both n e m foreign bidi =
-    cond_both (is_uni n && is_own e n) e.recvs (open_to e.recvs n (λ j. new_recv_lane (first_window e n) e.tuning.credit_step)) (λ t. open_in t m → open_in e.recvs m ⊎ open_in (opens n e).sends m) (λ _ h. inl h)
-    (λ _ h. elim (lookup_open e.recvs n m (λ j. new_recv_lane (first_window e n) e.tuning.credit_step)) [
-      | inl as_was ↦ inl (ap is_some (sym as_was) ∙ h)
-      | inr (none, kind, le, there) ↦ inr (
-          let begin : ℕ → SendLane = λ j. new_send_lane j (first_send_limit e n) e.settings.send_buffer in
-          let two_way : is_uni n ≡ false = ap (nat_le 2) (sym kind) ∙ bidi in
-          let test : (is_uni n && not (is_own e n)) ≡ false = ap (λ u. u && not (is_own e n)) two_way in
-          subst (λ t. open_in t m) (sym (ap (λ b. cond b e.sends (open_to e.sends n begin)) test)) (open_lower (open_to e.sends n begin) m n (sym kind) le (open_at e.sends n begin)))
-    ])
+opens_both n e m foreign bidi = grind (arith, nat_tests, cond_both, lookup_open, not, open_lower, open_at)
 
 peer_opens : (n : ℕ) (e : End) → Opens e (opened_by_peer n e)
 peer_opens n e = cond_both (is_own e n) e (opens n e) (Opens e) (λ _ m foreign bidi h. inl h) (λ _. opens_both n e)
 
 frame_opens : (f : Seen) (e : End) → Opens e (frame_taken f e)
 unfolding frame_taken
-frame_opens (Ack largest ranges) e m foreign bidi h = inl (subst (λ t. open_in t m) (ap (λ (x : End). x.recvs) (acks_leave (named e ranges) e)) h)
-frame_opens (Stream n offset bytes fin) e m foreign bidi h = peer_opens n e m foreign bidi (was_edited (opened_by_peer n e).recvs n (λ l. take_stream l offset bytes fin) m h)
-frame_opens (Control (MaxStreamData n v)) e m foreign bidi h =
-    elim (peer_opens n e m foreign bidi h) [ inl was ↦ inl was | inr now ↦ inr (open_edited (opened_by_peer n e).sends n (λ l. allow_lane l v) m now) ]
-frame_opens (Control (MaxStreams Uni v)) e m foreign bidi h = inl h
-frame_opens (Control (ResetStream n code size)) e m foreign bidi h = peer_opens n e m foreign bidi (was_edited (opened_by_peer n e).recvs n (λ l. take_reset l code size) m h)
-frame_opens (Control (StopSending n code)) e m foreign bidi h =
-    elim (peer_opens n e m foreign bidi h) [ inl was ↦ inl was | inr now ↦ inr (open_edited (opened_by_peer n e).sends n (λ l. stop_taken e.tuning.answers_stops l code) m now) ]
-frame_opens (Control (StreamDataBlocked n v)) e m foreign bidi h = peer_opens n e m foreign bidi h
-frame_opens f e m foreign bidi h = inl h
+frame_opens f e m foreign bidi h = grind (arith, nat_tests, acks_leave, peer_opens, was_edited, open_edited)
 
 abbrev Pairs : End → End → Type 0
 Pairs e f = (f.role ≡ e.role) × ((m : ℕ) → open_in e.sends m → open_in f.sends m) × Opens e f
 
 pairs_twice : (a b c : End) → Pairs a b → Pairs b c → Pairs a c
-pairs_twice a b c x y = (
-  y.0 ∙ x.0,
-  (λ m h. y.1 m (x.1 m h)),
-  (λ m foreign bidi h.
-      elim (y.2 m (ap (λ r. is_own_by r m) x.0 ∙ foreign) bidi h) [ inl mid ↦ elim (x.2 m foreign bidi mid) [ inl was ↦ inl was | inr now ↦ inr (y.1 m now) ] | inr now ↦ inr now ]),
-)
+pairs_twice a b c x y = grind (arith, nat_tests)
 
 -- tables of which no receiving half opened
 pairs_sends : (e f : End) → f.role ≡ e.role → f.recvs ≡ e.recvs → ((m : ℕ) → open_in e.sends m → open_in f.sends m) → Pairs e f
@@ -252,8 +204,7 @@ pairs_change old call (Put f) e comes =
 pairs_change old call Settled e comes = (refl, (λ m h. h), λ m foreign bidi h. inl (mapped (lookup e.recvs m) (ap is_some (sym (lookup_each raise e.recvs m)) ∙ h)))
   where
     mapped : (o : Option RecvLane) → is_some (option_map raise o) ≡ true → is_some o ≡ true
-    mapped None h = h
-    mapped (Some l) h = refl
+    mapped o h = grind (arith, nat_tests)
 pairs_change old call c e comes = pairs_sends e (changed c e) refl refl (λ m h. h)
 
 pairs_call : (old : End) (call : Call) (answer : CallAnswer call) (new : End) → EndStep old call answer new → Pairs old new

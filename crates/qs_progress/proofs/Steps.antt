@@ -1,10 +1,9 @@
 -- A calm call that raises no score puts out what wasn't acknowledged, or changes nothing but records.
-use Rattle.std.proofs.Common.{◌≡◌, ℕ, ◌+◌, ◌*◌, ◌<◌, ◌≤◌, suc, Bool, true, false, cond, List, [], ◌∷◌, ◌++◌, ◌⊎◌, length, map, take, slice_get, option_map, Option, Some, None, is_some, refl, sym, ap, ◌∙◌, subst, arith, inl, inr}
+use Rattle.std.proofs.Common.{◌≡◌, ℕ, ◌+◌, ◌*◌, ◌<◌, ◌≤◌, suc, Bool, true, false, cond, List, [], ◌∷◌, ◌++◌, ◌⊎◌, length, map, take, slice_get, option_map, Option, Some, None, refl, sym, ap, ◌∙◌, subst, arith, inl, inr}
 use Rattle.std.specs.Prelude.{max, nat_le}
 use Rattle.std.specs.FinMap as fmap
 use Rattle.std.specs.FinMap.{nat_cmp-IsAntisymmetric, same_map}
 use Rattle.std.specs.Cmp.{nat_cmp_total}
-use Rattle.std.proofs.lemmas.Bool.{true≢false}
 use Rattle.std.proofs.lemmas.Bool.Decides.{nat_tests}
 use Rattle.qs_ranges.specs.Numbers.{same_numbers}
 use Rattle.qs_wire.specs.declared.stream_id.Dir.{Dir}
@@ -73,11 +72,7 @@ each_back t same =
     }
 
 raise_back : (l : RecvLane) → (l.final_size ≡ None → next_limit l.limit (taken l) l.window l.share ≡ l.limit) → raise l ≡ l
-raise_back l settled = ap (λ k. record l { limit = k }) (go l.final_size refl)
-  where
-    go : (o : Option ℕ) → l.final_size ≡ o → cond (is_some l.final_size) l.limit (next_limit l.limit (taken l) l.window l.share) ≡ l.limit
-    go (Some size) is = ap (λ o. cond (is_some o) l.limit (next_limit l.limit (taken l) l.window l.share)) is
-    go None is = ap (λ o. cond (is_some o) l.limit (next_limit l.limit (taken l) l.window l.share)) is ∙ settled is
+raise_back l settled = grind (arith, nat_tests)
 
 settled_rest : (old mid : End) → but_records mid ≡ but_records old → ((d : Dir) → ended mid d ≡ ended old d) → LimitsAreSettled old → CountsAreSettled old → but_records (settle mid) ≡ but_records old
 settled_rest old mid same over limits counts =
@@ -97,9 +92,7 @@ settled_rest old mid same over limits counts =
 -- where a score stays the same, no half ends
 
 bool_same : (a b : Bool) → (a ≡ true → b ≡ true) → (b ≡ true → a ≡ true) → a ≡ b
-bool_same true b x y = sym (x refl)
-bool_same false true x y = absurd (true≢false (sym (y refl)))
-bool_same false false x y = refl
+bool_same a b x y = grind (arith, nat_tests)
 
 module _ (old mid : End) (g : Goes old (settle mid)) (even : score (settle mid) ≤ score old) (same : but_records mid ≡ but_records old) (alike : SendsAlike old.sends mid.sends) where
   lane_same : (n : ℕ) (l m : SendLane) → lookup old.sends n ≡ Some l → lookup mid.sends n ≡ Some m → Alike l m → send_ended m ≡ send_ended l
@@ -124,9 +117,7 @@ kept_all : (l : RecvLane) → IsLawful l → keep_from l.arrived.stored l.arrive
 kept_all l lawful = same_map nat_cmp_total nat_cmp-IsAntisymmetric _ _ (λ q. get-keep_from l.arrived.stored l.arrived.read_count q ∙ go q (nat_le l.arrived.read_count q) refl (fmap.get l.arrived.stored q) refl)
   where
     go : (q : ℕ) (b : Bool) → nat_le l.arrived.read_count q ≡ b → (o : Option ℕ) → fmap.get l.arrived.stored q ≡ o → cond b (fmap.get l.arrived.stored q) None ≡ fmap.get l.arrived.stored q
-    go q true le o is = refl
-    go q false over None is = sym is
-    go q false over (Some byte) is = (let le = (lawful.stored_received q (ap is_some is)).0 in absurd (grind (arith, nat_tests, over, le)))
+    go q b le o is = grind (arith, nat_tests)
 
 pub read_same : (l : RecvLane) (size : ℕ) → IsLawful l → (after_read l size).arrived.read_count ≤ l.arrived.read_count → ((after_read l size).reader_done ≡ true → l.reader_done ≡ true) → after_read l size ≡ l
 read_same l size lawful = by (read_answer l size)
@@ -158,11 +149,21 @@ module _ (old : End) where
   in_fills [] e last k p is here = subst (λ (x : End). IsIn x.outstanding k p) (sym is) here
   in_fills (f ∷ fs) e last k p (may, rest) here = in_fills fs (frame_put f e) last k p rest (put_in k p f e here)
 
+  -- no frame stands there, or an ACK alone
+  abbrev pub OnlyAcks : List Seen → End → End → Type 0
+  OnlyAcks fs e last = ((fs ≡ []) × (last ≡ e)) ⊎ ((e.ack_due ≡ true) × (last.ack_due ≡ false))
+
   -- a packet that carries anything carries what is due
-  pub fills_new : (fs : List Seen) (e last : End) → but_ack e ≡ but_ack old → Fills old e fs last → (but_ack last ≡ but_ack old) ⊎ ((p : Piece) × IsIn last.outstanding old.next p × IsNew old p)
+  pub fills_new : (fs : List Seen) (e last : End) → but_ack e ≡ but_ack old → Fills old e fs last
+      → ((but_ack last ≡ but_ack old) × OnlyAcks fs e last) ⊎ ((p : Piece) × IsIn last.outstanding old.next p × IsNew old p)
   unfolding frame_put
-  fills_new [] e last same is = inl (ap but_ack is ∙ same)
-  fills_new (Ack largest ranges ∷ fs) e last same (may, rest) = fills_new fs (record e { ack_due = false }) last same rest
+  fills_new [] e last same is = inl (ap but_ack is ∙ same, inl (refl, is))
+  fills_new (Ack largest ranges ∷ fs) e last same (may, rest) =
+      elim (fills_new fs (record e { ack_due = false }) last same rest) [
+        | inl (left, inl (none, is)) ↦ inl (left, inr (may.due, ap (λ (x : End). x.ack_due) is))
+        | inl (left, inr (due, is)) ↦ inl (left, inr (may.due, is))
+        | inr puts ↦ inr puts
+      ]
   fills_new (Stream n offset bytes fin ∷ fs) e last same ((l, may), rest) =
       let c = chunk_of offset bytes fin in
       let at : lookup old.sends n ≡ Some l = ap (λ (x : End). lookup x.sends n) (sym same) ∙ may.lane in
@@ -237,11 +238,7 @@ module _ (old : End) (ready : IsReady old) where
   -- Reads
 
   read_back : (n : ℕ) (f : RecvLane → RecvLane) → ((l : RecvLane) → lookup old.recvs n ≡ Some l → f l ≡ l) → on_recv n f old ≡ old
-  read_back n f same = go (lookup old.recvs n) refl
-    where
-      go : (o : Option RecvLane) → lookup old.recvs n ≡ o → on_recv n f old ≡ old
-      go None is = ap (λ o. record old { recvs = updated old.recvs n f o }) is
-      go (Some l) is = ap (λ t. record old { recvs = t }) (updated_back old.recvs n f l is (same l is))
+  read_back n f same = grind (arith, nat_tests, updated_back)
 
   -- the lane at n once the limits moved
   pub raised_at : (n : ℕ) (f : RecvLane → RecvLane) (l : RecvLane) → lookup old.recvs n ≡ Some l → lookup (settle (on_recv n f old)).recvs n ≡ Some (raise (f l))
@@ -301,7 +298,7 @@ module _ (old : End) (ready : IsReady old) where
             settled_quiet (on_recv n h (on_recv n f old)) (ap but_records is) (slots_same old.sends) (λ k p here. here) g kept lanes even;
         packet = λ fs last filled g kept lanes even.
             elim (fills_new old fs old last refl filled) [
-              | inl same ↦ settled_quiet (record last { next = old.next + 1 }) (ap but_records same) (subst (λ t. SendsAlike old.sends t) (sym (ap (λ (x : End). x.sends) same)) (slots_same old.sends)) (λ k p here. subst (λ (x : End). IsIn x.outstanding k p) same here) g kept lanes even
+              | inl (same, none) ↦ settled_quiet (record last { next = old.next + 1 }) (ap but_records same) (subst (λ t. SendsAlike old.sends t) (sym (ap (λ (x : End). x.sends) same)) (slots_same old.sends)) (λ k p here. subst (λ (x : End). IsIn x.outstanding k p) same here) g kept lanes even
               | inr (p, there, new) ↦ inl (p, there, undone_stays old (settle (record last { next = old.next + 1 })) g even kept p (new_undone p new), omega arith)
             ];
         frames = λ fs mid none ends g kept lanes even.

@@ -1,8 +1,6 @@
 -- Sums that grow.
-use Rattle.std.proofs.Common.{◌≡◌, ℕ, zero, suc, ◌+◌, ◌-◌, ◌≤◌, Bool, true, false, ◌&&◌, Option, Some, None, sum_by, refl, sym, subst, arith, inl, inr}
-use Rattle.std.specs.Prelude.{nat_le}
+use Rattle.std.proofs.Common.{◌≡◌, ℕ, zero, suc, ◌+◌, ◌-◌, ◌≤◌, Bool, true, Option, sum_by, refl, arith}
 use Rattle.std.specs.List.{range_with_len}
-use Rattle.std.proofs.lemmas.Bool.{cases_lt}
 use Rattle.std.proofs.lemmas.Bool.Decides.{nat_tests}
 use Rattle.std.proofs.lemmas.List.Sums.{sum_by-cons}
 use Rattle.qs_machine.specs.Tables.{Tables, lookup}
@@ -20,37 +18,18 @@ sum_grows f g lo (suc k) (suc m) le each =
     rw (sum_by-cons f lo (range_with_len (lo + 1) k), sum_by-cons g lo (range_with_len (lo + 1) m)) (omega (arith, each lo, sum_grows f g (lo + 1) k m (omega (arith, le)) each))
 
 pub one_grows : (b c : Bool) → (b ≡ true → c ≡ true) → one_if b ≤ one_if c
-one_grows false c more = omega arith
-one_grows true false more = absurd (cc (more refl))
-one_grows true true more = omega arith
+one_grows b c more = grind (arith, nat_tests)
 
 -- no more than one value for each number up to the present one
 pub told_few : (least p : ℕ) (c : Bool) → told_from least p c ≤ p + 1 - least
-told_few least p c = go (nat_le least p) refl c
-  where
-    go : (b : Bool) → nat_le least p ≡ b → (c : Bool) → (p - least) + one_if (b && c) ≤ p + 1 - least
-    go false over c = omega arith
-    go true is false = omega arith
-    go true is true = grind (arith, nat_tests)
+told_few least p c = grind (arith, nat_tests)
 
 pub told_grows : (least p q : ℕ) (c d : Bool) → p ≤ q → (p ≡ q → c ≡ true → d ≡ true) → told_from least p c ≤ told_from least q d
-told_grows least p q c d le more =
-    elim (cases_lt p q) [
-      | inl lt ↦ (let few = told_few least p c in omega (arith, few, lt))
-      | inr ge ↦ (
-          let same : p ≡ q = omega (arith, ge, le) in
-          let ones : one_if (nat_le least q && c) ≤ one_if (nat_le least q && d) = by (nat_le least q) c d (more same) in
-          rw same (omega (arith, ones)))
-    ]
-  where
-    by : (b c d : Bool) → (c ≡ true → d ≡ true) → one_if (b && c) ≤ one_if (b && d)
-    by false c d more = omega arith
-    by true c d more = one_grows c d more
+told_grows least p q c d le more = grind (arith, nat_tests)
 
 -- what a table's part counts, where it is kept
 pub marks_grow : {X : Type 0} (R : X → X → Type 0) (f g : X → ℕ) (t u : Tables X) → KeptIn R t u → ((x y : X) → R x y → f x ≤ g y) → (n : ℕ) → marks_of f (lookup t n) ≤ marks_of g (lookup u n)
 marks_grow {X} R f g t u kept grows n = go (lookup t n) refl
   where
     go : (o : Option X) → lookup t n ≡ o → marks_of f o ≤ marks_of g (lookup u n)
-    go None is = omega arith
-    go (Some x) is = let (y, there, r) = kept n x is in subst (λ o. f x ≤ marks_of g o) (sym there) (grows x y r)
+    go o is = grind (arith, nat_tests)

@@ -76,11 +76,7 @@ module _ (old e : End) (delay room largest : ℕ) (xs : List ℕ) (odd : IsOdd x
 
   -- a kept number that isn't named lies below all that are
   unnamed_low : (k : ℕ) → set.contains old.done k ≡ true → is_named (ack_ranges_of largest xs) k ≡ false → k < low
-  unnamed_low k kept not_named =
-      elim (cases_lt k low) [
-        | inl lt ↦ lt
-        | inr ge ↦ absurd (true≢false (sym (may.highest low k (low_named xs largest odd) ge kept) ∙ not_named))
-      ]
+  unnamed_low k kept not_named = grind (arith, nat_tests, cases_lt, true≢false, low_named)
 
   -- so no range more could be named, were one left out of the run of the largest
   no_more : (gap len k : ℕ) → taken (xs ++ gap ∷ len ∷ []) ≤ largest + 1 → MayAck old old largest (ack_ranges_of largest (xs ++ gap ∷ len ∷ [])) →

@@ -1,14 +1,11 @@
 -- An end that closed stays so; so one that is open was. And a run goes on, trail by trail.
-use Rattle.std.proofs.Common.{◌≡◌, true, List, [], ◌∷◌, ◌++◌, Option, Some, None, is_some, refl, sym, ap, ◌∙◌, subst, inl, inr}
-use Rattle.std.proofs.lemmas.Bool.{false≢true}
-use Rattle.qs_wire.specs.declared.stream_id.Dir.TheVariants.{Uni}
+use Rattle.std.proofs.lemmas.Bool.Decides.{nat_tests}
+use Rattle.std.proofs.Common.{arith}
+use Rattle.std.proofs.Common.{◌≡◌, true, List, [], ◌∷◌, ◌++◌, None, is_some, sym, ap, ◌∙◌, subst, inl, inr}
 use Rattle.qs_send.specs.Records.{Among}
 use Rattle.qs_machine.specs.Ends.{End}
-use Rattle.qs_machine.specs.FrameStep.{frame_taken}
-use Rattle.qs_machine.specs.Lawful.{frame_put}
-use Rattle.qs_machine.specs.Setting.{Grant, SendBuffer, StreamWindow}
 use Rattle.qs_machine.specs.EndStep.{Call, Answer as CallAnswer, EndStep}
-use Rattle.qs_machine.proofs.EveryCall.{Change, changed, Comes, relates, Wanted, WasSet, Took, Acked, Put, Shut}
+use Rattle.qs_machine.proofs.EveryCall.{Change, changed, Comes, relates}
 use Rattle.qs_machine.proofs.Leaves.{acks_leave, put_leaves, frame_leaves}
 use Rattle.qs_calls.specs.declared.settings.Settings.{Settings}
 use Rattle.qs_runs.specs.Logs.{Happening}
@@ -25,25 +22,13 @@ same_shut : (e f : End) → f.closed ≡ e.closed → StaysShut e f
 same_shut e f is shut = ap is_some is ∙ shut
 
 shut_change : (old : End) (call : Call) (c : Change) (e : End) → Comes old call e c → StaysShut e (changed c e)
-shut_change old call (Wanted Uni count) e comes shut = shut
-shut_change old call (WasSet (SendBuffer n size)) e comes shut = shut
-shut_change old call (WasSet (Grant Uni n)) e comes shut = shut
-shut_change old call (WasSet (StreamWindow n w)) e comes shut = shut
-shut_change old call (Took f) e comes shut = same_shut e (frame_taken f e) (ap (λ (x : End). x.closed) (frame_leaves f e)) shut
-shut_change old call (Acked count ranges) e comes shut = same_shut e (changed (Acked count ranges) e) (ap (λ (x : End). x.closed) (acks_leave _ e)) shut
-shut_change old call (Put f) e comes shut = same_shut e (frame_put f e) (ap (λ (x : End). x.closed) (put_leaves f e)) shut
-shut_change old call (Shut c) e comes shut = refl
-shut_change old call c e comes shut = shut
+shut_change old call c e comes shut = grind (arith, nat_tests, same_shut, frame_leaves, changed, acks_leave, put_leaves)
 
 shut_call : (old : End) (call : Call) (answer : CallAnswer call) (new : End) → EndStep old call answer new → StaysShut old new
 shut_call old call answer new step = relates StaysShut (λ e shut. shut) (λ e f g x y shut. y (x shut)) old call (shut_change old call) answer new step
 
 open_before : (e f : End) → StaysShut e f → f.closed ≡ None → e.closed ≡ None
-open_before e f stays is = go e.closed refl
-  where
-    go : (o : Option _) → e.closed ≡ o → o ≡ None
-    go None at = refl
-    go (Some c) at = absurd (false≢true (sym (ap is_some is) ∙ stays (ap is_some at)))
+open_before e f stays is = grind (arith, nat_tests)
 
 pub trail_open : (Is : Call → Type 0) (ms : List Moment) (old new : Moment) → Trail Is old ms new → BothOpen new.ends → BothOpen old.ends
 trail_open Is [] old new is open_end s = subst (λ (m : Moment). BothOpen m.ends) is open_end s

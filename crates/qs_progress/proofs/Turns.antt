@@ -1,29 +1,23 @@
 -- Turns: what one end sends is acknowledged once the other's turn is over.
-use Rattle.std.proofs.Common.{◌≡◌, ℕ, zero, suc, ◌<◌, Bool, true, false, List, [], ◌∷◌, ◌++◌, append-nil, ◌⊎◌, length, slice_get, Option, Some, None, is_some, refl, sym, ap, ◌∙◌, subst, arith, inl, inr}
-use Rattle.std.specs.Prelude.{⊤, Result, Ok, Err, nat_lt, MatchBool, flat_map, ◌+◌}
+use Rattle.std.proofs.lemmas.Bool.Decides.{nat_tests}
+use Rattle.std.proofs.Common.{◌≡◌, ℕ, zero, suc, ◌<◌, true, false, List, [], ◌∷◌, ◌++◌, append-nil, ◌⊎◌, length, slice_get, Option, Some, None, is_some, refl, sym, ap, ◌∙◌, subst, arith, inl, inr}
+use Rattle.std.specs.Prelude.{⊤, Ok, Err, flat_map, ◌+◌}
 use Rattle.std.specs.FinMap as fmap
 use Rattle.std.specs.FinSet as set
-use Rattle.std.proofs.lemmas.Bool.{false≢true, true≢false, or_left, or_right}
+use Rattle.std.proofs.lemmas.Bool.{true≢false, or_left, or_right}
 use Rattle.std.proofs.lemmas.List.{length-map}
 use Rattle.std.proofs.lemmas.Option.{same_Some, slice_get_within}
 use Rattle.qs_send.specs.Records.{Among}
 use Rattle.qs_send.specs.declared.piece.Piece.{Piece}
 use Rattle.qs_send.specs.declared.piece.Piece.TheVariants.{Data, Told}
 use Rattle.qs_calls.specs.declared.closing.Closed.{Closed}
-use Rattle.qs_calls.specs.declared.closing.Closed.TheVariants as closings
-use Rattle.qs_calls.specs.declared.closing.Closer.{Closer}
-use Rattle.qs_calls.specs.declared.closing.Closer.TheVariants.{Us, Peer}
-use Rattle.qs_calls.specs.declared.closing.Closing.{Closing}
-use Rattle.qs_calls.specs.declared.closing.Received.{Received}
-use Rattle.qs_calls.specs.declared.closing.Received.TheVariants as received
 use Rattle.qs_calls.specs.declared.closing.Received.TheVariants.{Done}
 use Rattle.qs_calls.specs.declared.event.Side.{Side}
-use Rattle.qs_calls.specs.declared.event.Side.TheVariants.{A, B}
 use Rattle.qs_calls.specs.declared.making.Made.{Made}
 use Rattle.qs_calls.specs.declared.making.MakeFault.{MakeFault}
 use Rattle.qs_calls.specs.declared.settings.Settings.{Settings}
 use Rattle.qs_machine.specs.Ends.{End}
-use Rattle.qs_machine.specs.Seen.{Seen, Plain, seen_all, asks_ack, any_asks}
+use Rattle.qs_machine.specs.Seen.{Seen, seen_all, asks_ack, any_asks}
 use Rattle.qs_machine.specs.Plains.{frames_in, is_plain}
 use Rattle.qs_machine.specs.Ways.{IsNew, is_ack}
 use Rattle.qs_machine.specs.Credit.{settle}
@@ -33,8 +27,8 @@ use Rattle.qs_calls.specs.declared.filling.Fill.{Fill}
 use Rattle.qs_calls.specs.declared.filling.Filled.{Filled}
 use Rattle.qs_machine.specs.Lawful.{Fills}
 use Rattle.qs_machine.specs.Filling.{FillAt, IsFilled, as_made}
-use Rattle.qs_machine.specs.Making.{IsMade, MakeAt, LoseStep, lose_refusal, losses, make_refusal, claim_refusal}
-use Rattle.qs_machine.specs.Receiving.{ReceiveStep, ReceiveBy, TakesPayload, noted_receive}
+use Rattle.qs_machine.specs.Making.{IsMade, MakeAt, LoseStep, losses, make_refusal, claim_refusal}
+use Rattle.qs_machine.specs.Receiving.{ReceiveStep, ReceiveBy}
 use Rattle.qs_machine.specs.EndStep.{Call, Answer, EndStep, Receive, Make, MakeAck, FillIn, Claim, Lose}
 use Rattle.qs_machine.proofs.Plains.{differ_covers, differ_turned}
 use Rattle.qs_machine.proofs.Ways.{payload_frames, ack_packet}
@@ -76,18 +70,7 @@ none_lost e k [] there clear = refl
 none_lost e k (p ∷ ps) there clear = absurd (clear k p (p ∷ ps, there, inl refl))
 
 one_lost : (e f : End) (k : ℕ) → LoseStep e k (Ok tt) f → Lost e f
-one_lost e f k step =
-    elim (certain_cases (lose_refusal e k) e (Ok tt) f _ step) [
-      | inl (fault, is, same) ↦ absurd (cc is)
-      | inr (allowed, (ps, there, told)) ↦ elim told [
-        | inr (moved, lt, is, same) ↦ absurd (cc is)
-        | inl (ok, is) ↦ record {
-          done = ap (λ (x : End). x.done) is ∙ (losses_leave k ps e).0;
-          due = ap (λ (x : End). x.ack_due) is ∙ (losses_leave k ps e).1;
-          same = λ clear. is ∙ none_lost e k ps there clear;
-        }
-      ]
-    ]
+one_lost e f k step = grind (arith, nat_tests, certain_cases, losses_leave, none_lost)
 
 -- after its losses nothing of an end is outstanding, and the other end is as it was
 pub record HasLost (s : Side) (old new : Moment) : Type 0 where
@@ -145,26 +128,8 @@ sends_all s (suc n) old new (mid, passes, rest) = sends_all s n mid new rest
 pub new_payload : (e new : End) (k : ℕ) (bytes : List ℕ) → ReceiveStep e k bytes (Ok Done) new → IsNew e k
 new_payload e new k bytes step = by_closed e.closed refl step
   where
-    never : (c : Closer) (code : ℕ) → ◌≡◌ {A = Result Received Closing} (Ok Done) (noted_receive c code) → ⊥
-    never Us code is = cc is
-    never Peer code is = cc is
-
-    Taken : Type 0
-    Taken = (mid : End) × TakesPayload k bytes e (Ok Done) mid × (new ≡ settle mid)
-
-    by_kept : e.closed ≡ None → nat_lt k e.floor ≡ false → (b : Bool) → set.contains e.done k ≡ b → MatchBool b ((◌≡◌ {A = Result Received Closing} (Ok Done) (Ok received.Duplicate)) × (new ≡ e)) Taken → IsNew e k
-    by_kept unclosed above true is again = absurd (cc again.0)
-    by_kept unclosed above false is taken = record { unclosed = unclosed; above = above; unkept = is }
-
-    by_floor : e.closed ≡ None → (b : Bool) → nat_lt k e.floor ≡ b → MatchBool b ((◌≡◌ {A = Result Received Closing} (Ok Done) (Ok received.BelowFloor)) × (new ≡ e)) (MatchBool (set.contains e.done k) ((◌≡◌ {A = Result Received Closing} (Ok Done) (Ok received.Duplicate)) × (new ≡ e)) Taken) → IsNew e k
-    by_floor unclosed true is low = absurd (cc low.0)
-    by_floor unclosed false is rest = by_kept unclosed is (set.contains e.done k) refl rest
-
     by_closed : (o : Option Closed) → e.closed ≡ o → ReceiveBy o k bytes e (Ok Done) new → IsNew e k
-    by_closed None is rest = by_floor is (nat_lt k e.floor) refl rest
-    by_closed (Some (closings.ByUs closing)) is closed = absurd (cc closed.0)
-    by_closed (Some (closings.ByPeer code)) is closed = absurd (cc closed.0)
-    by_closed (Some (closings.Noted close)) is closed = absurd (never close.by close.code closed.0)
+    by_closed o is rest = grind (arith, nat_tests)
 
 pub is_made : (o : Option MakeFault) (e new : End) (first delay room : ℕ) (made : Made) (text : List ℕ) → MakeAt o e first delay room (Ok (Some made)) text new → IsMade e first delay room made text new
 is_made None e new first delay room made text step = step
@@ -174,9 +139,7 @@ the_last : (texts : List (List ℕ)) (t text : List ℕ) → slice_get (texts ++
 the_last texts t text is = same_Some t text (sym (slice_get-last texts t) ∙ is)
 
 none_there : (texts : List (List ℕ)) (text : List ℕ) → slice_get (texts ++ []) (length texts) ≡ Some text → ⊥
-none_there texts text is =
-    let lt = slice_get_within texts (length texts) text (ap (λ ts. slice_get ts (length texts)) (sym (append-nil texts)) ∙ is) in
-    omega (arith, lt)
+none_there texts text is = grind (arith, nat_tests, slice_get_within, slice_get, append-nil)
 
 -- an end made its next packet, with this text
 record Makes (e e2 : End) (text : List ℕ) : Type 0 where
@@ -239,8 +202,7 @@ any_among f (g ∷ fs) (inl is) asks = or_left _ _ (ap asks_ack (sym is) ∙ ask
 any_among f (g ∷ fs) (inr later) asks = or_right (asks_ack g) _ (any_among f fs later asks)
 
 other_twice : (s : Side) → other (other s) ≡ s
-other_twice A = refl
-other_twice B = refl
+other_twice s = grind (arith, nat_tests)
 
 -- In a run
 
@@ -306,8 +268,7 @@ module _ (a b : Settings) where
         )
       where
         no_plain : (g : Seen) → is_ack g ≡ true → is_plain g ≡ false
-        no_plain (Plain asks) is = absurd (false≢true is)
-        no_plain g is = refl
+        no_plain g is = grind (arith, nat_tests)
 
     -- The turn of an end: what the other end owes it grows
     pub sends : (n : ℕ) (old new : Moment) (lo : ℕ) → IsReached a b old → Sends s n old new → Owes lo (end_of old.ends s).next (end_of old.ends s) (end_of old.ends (other s))

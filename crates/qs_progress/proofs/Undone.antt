@@ -1,11 +1,11 @@
 -- A piece whose acknowledgement would be something new stays so as long as a score does.
-use Rattle.std.proofs.Common.{◌≡◌, ℕ, ◌+◌, ◌<◌, ◌≤◌, Bool, true, false, ◌⊎◌, Some, is_some, refl, sym, ap, ◌∙◌, subst, arith, inl, inr}
+use Rattle.std.proofs.lemmas.Bool.Decides.{nat_tests}
+use Rattle.std.proofs.Common.{◌≡◌, ℕ, ◌+◌, ◌<◌, ◌≤◌, Bool, true, false, ◌⊎◌, Some, sym, ◌∙◌, arith, inl, inr}
 use Rattle.std.specs.FinSet as set
 use Rattle.std.proofs.lemmas.Bool.{true≢false, cond_both, or_left}
-use Rattle.std.proofs.lemmas.Option.{same_Some}
 use Rattle.qs_ranges.specs.Numbers.{contains-with_range}
 use Rattle.qs_recv.specs.Lane.{RecvLane}
-use Rattle.qs_send.specs.Lane.{SendLane, reset_refusal, broken_off}
+use Rattle.qs_send.specs.Lane.{SendLane}
 use Rattle.qs_send.specs.declared.piece.Item.{Item}
 use Rattle.qs_send.specs.declared.piece.Item.TheVariants.{MaxData, MaxStreamData, MaxStreams, ResetStream, StopSending, DataBlocked, StreamDataBlocked, StreamsBlocked}
 use Rattle.qs_send.specs.declared.piece.Piece.{Piece}
@@ -15,12 +15,12 @@ use Rattle.qs_machine.specs.Ends.{End, AckedItems, first_send_limit, first_windo
 use Rattle.qs_machine.specs.Credit.{granted_streams, first_grant}
 use Rattle.qs_machine.specs.Due.{known_count}
 use Rattle.qs_machine.proofs.TablesAfter.{KeptIn}
-use Rattle.qs_machine.proofs.EachHalf.{SendEdit, Resets, IsAsked, IsAcked, ResetIsAcked, send_edited}
+use Rattle.qs_machine.proofs.EachHalf.{SendEdit, send_edited}
 use Rattle.qs_progress.specs.Score.{is_done, told_from, first_count, score}
 use Rattle.qs_progress.specs.Outstanding.{IsReached}
 use Rattle.qs_progress.proofs.Score.{Goes, first_same, window_same}
 use Rattle.qs_progress.proofs.Outstanding.{AcksStay, stay_same, stop_stays}
-use Rattle.qs_progress.proofs.Even.{members_even, told_even, acked_even, fin_even, reset_even, sent_told_even, stop_even, got_told_even, granted_told_even, blocked_told_even, data_told_even, data_blocked_even}
+use Rattle.qs_progress.proofs.Even.{members_even, acked_even, fin_even, reset_even, sent_told_even, stop_even, got_told_even, granted_told_even, blocked_told_even, data_told_even, data_blocked_even}
 
 abbrev pub IsUndone : End → Piece → Type 0
 IsUndone e (Data n c) =
@@ -37,43 +37,19 @@ IsUndone e (Told (StreamsBlocked d m)) = (m ≡ known_count e d) × (first_count
 
 -- it isn't acknowledged
 pub undone_unreached : (e : End) (p : Piece) → IsUndone e p → IsReached e p → ⊥
-undone_unreached e (Data n c) (l, is, missing) (m, there, all, end) =
-    let same : m ≡ l = same_Some m l (sym there ∙ is) in
-    elim missing [
-      | inl (q, low, high, not) ↦ true≢false (sym (all q low high) ∙ ap (λ (x : SendLane). set.contains x.acked q) same ∙ not)
-      | inr (fin, not) ↦ true≢false (sym (end fin) ∙ ap (λ (x : SendLane). x.fin_acked) same ∙ not)
-    ]
-undone_unreached e (Told (MaxData m)) h is = true≢false (sym is ∙ h.2)
-undone_unreached e (Told (MaxStreamData n m)) h is = true≢false (sym is ∙ h.4)
-undone_unreached e (Told (MaxStreams d m)) h is = true≢false (sym is ∙ h.2)
-undone_unreached e (Told (ResetStream n code size)) (l, is, not) (m, there, acked) = true≢false (sym acked ∙ ap (λ (x : SendLane). x.reset_acked) (same_Some m l (sym there ∙ is)) ∙ not)
-undone_unreached e (Told (StopSending n code)) h is = true≢false (sym is ∙ h.2)
-undone_unreached e (Told (DataBlocked m)) h is = true≢false (sym is ∙ h.2)
-undone_unreached e (Told (StreamDataBlocked n m)) h is = true≢false (sym is ∙ h.4)
-undone_unreached e (Told (StreamsBlocked d m)) h is = true≢false (sym is ∙ h.2)
+undone_unreached e p h h2 = grind (arith, nat_tests)
 
 -- what is acknowledged of a half stays so, across each of its edits
 pub acks_edits : (x : SendEdit) (l : SendLane) → AcksStay l (send_edited x l)
-acks_edits (Resets code) l = cond_both (is_some (reset_refusal l)) l (broken_off l code) (AcksStay l) (λ _. stay_same l) (λ _. stay_same l)
-acks_edits (IsAsked answers code) l = stop_stays answers code l
-acks_edits (IsAcked c) l = (λ q is. contains-with_range l.acked c.offset (c.offset + c.len) q ∙ or_left _ _ is, λ is. or_left l.fin_acked c.fin is, λ is. is)
-acks_edits ResetIsAcked l = (λ q is. is, λ is. is, λ is. refl)
-acks_edits x l = stay_same l
+acks_edits x l = grind (arith, nat_tests, cond_both, stay_same, stop_stays, contains-with_range, or_left)
 
 -- an item's value that isn't acknowledged is the present one still, and isn't acknowledged yet
 item_even : (x y : AckedItems) (item : ℕ → Item) (least low m p q : ℕ) → m ≡ p → low ≡ least → least ≤ m → p ≤ q → is_done x (item m) ≡ false → told_from low q (is_done y (item q)) ≤ told_from least p (is_done x (item p))
     → (m ≡ q) × (low ≤ m) × (is_done y (item m) ≡ false)
-item_even x y item least low m p q is same few le not even =
-    let not_now : is_done x (item p) ≡ false = subst (λ k. is_done x (item k) ≡ false) is not in
-    let one = subst (λ b. told_from low q (is_done y (item q)) ≤ told_from least p b) not_now even in
-    let two = subst (λ k. told_from k q (is_done y (item q)) ≤ told_from least p false) same one in
-    let (kept, unset) = told_even least p q (is_done y (item q)) (omega (arith, few, is)) le two in
-    let now : m ≡ q = is ∙ sym kept in
-    (now, omega (arith, few, same), subst (λ k. is_done y (item k) ≡ false) (sym now) unset)
+item_even x y item least low m p q is same few le not even = grind (arith, nat_tests)
 
 pub unless : (b : Bool) → (b ≡ true → ⊥) → b ≡ false
-unless true not = absurd (not refl)
-unless false not = refl
+unless b not = grind (arith, nat_tests)
 
 module _ (a b : End) (g : Goes a b) (even : score b ≤ score a) (kept : KeptIn AcksStay a.sends b.sends) where
   pub undone_stays : (p : Piece) → IsUndone a p → IsUndone b p

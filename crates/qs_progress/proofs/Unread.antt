@@ -1,34 +1,29 @@
 -- What came and wasn't read is stored, where nothing is thrown away; so a read of a stream with news tells some.
-use Rattle.std.proofs.Common.{◌≡◌, ℕ, zero, suc, ◌+◌, ◌-◌, ◌<◌, ◌≤◌, Bool, true, false, not, ◌&&◌, ◌||◌, cond, nat_le, nat_cmp, List, [], ◌∷◌, length, slice_get, take, Option, Some, None, is_some, refl, sym, ap, ◌∙◌, subst, arith, inl, inr}
+use Rattle.std.proofs.Common.{◌≡◌, ℕ, zero, suc, ◌+◌, ◌-◌, ◌<◌, ◌≤◌, Bool, true, false, not, ◌&&◌, ◌||◌, cond, nat_cmp, List, [], ◌∷◌, length, slice_get, Option, Some, None, is_some, refl, sym, ap, ◌∙◌, subst, arith}
 use Rattle.std.specs.Prelude.{option_map}
 use Rattle.std.specs.FinMap as fmap
 use Rattle.std.specs.FinSet as set
 use Rattle.std.proofs.lemmas.Bool.{cond_both, true≢false, false≢true, and_parts}
 use Rattle.std.proofs.lemmas.Bool.Decides.{nat_tests}
-use Rattle.std.proofs.lemmas.Option.{none-some}
-use Rattle.qs_ranges.specs.Numbers.{NumberSet, is_within, contains-with_range}
-use Rattle.qs_wire.specs.declared.stream_id.Dir.TheVariants.{Bidi, Uni}
-use Rattle.qs_recv.specs.Assembled.{Assembled, put, store, keep_from, discard, forget, front_of, front, front_from, take_front}
+use Rattle.qs_ranges.specs.Numbers.{NumberSet, contains-with_range}
+use Rattle.qs_recv.specs.Assembled.{Assembled, put, store, discard, front_of, front, front_from, take_front}
 use Rattle.qs_recv.specs.Lawful.{IsLawful}
 use Rattle.qs_recv.specs.News.{is_readable, tells_something}
-use Rattle.qs_recv.specs.Lane.{RecvLane, answer_by, at_final_size, new_lane, after_read, after_answer, read_answer, stop, stop_and_discard, set_window, take_stream, take_reset, raise, is_over, is_whole}
+use Rattle.qs_recv.specs.Lane.{RecvLane, new_lane, after_read, after_answer, read_answer, stop, take_stream, take_reset, raise, is_over}
 use Rattle.qs_recv.specs.declared.half.Read.{Read}
 use Rattle.qs_recv.specs.declared.half.Read.TheVariants as reads
 use Rattle.qs_recv.proofs.AssembledLaws.{get-store, get-keep_from, is_in_run}
-use Rattle.qs_recv.specs.Bytes.{byte_at}
 use Rattle.qs_send.specs.declared.piece.Item.{Item}
-use Rattle.qs_send.specs.declared.piece.Item.TheVariants.{MaxData, MaxStreamData, MaxStreams, ResetStream, StopSending, DataBlocked, StreamDataBlocked, StreamsBlocked}
 use Rattle.qs_calls.specs.declared.settings.Settings.{Settings}
 use Rattle.qs_calls.specs.declared.event.Side.{Side}
-use Rattle.qs_calls.specs.declared.event.Side.TheVariants.{A, B}
+use Rattle.qs_calls.specs.declared.event.Side.TheVariants.{A}
 use Rattle.qs_machine.specs.Tables.{Tables, lookup, updated, open_to, no_streams}
-use Rattle.qs_machine.specs.Ends.{End, is_own, is_uni, opens, opened_by_peer, on_recv, first_window}
+use Rattle.qs_machine.specs.Ends.{End, is_own, is_uni, opens, opened_by_peer, first_window}
 use Rattle.qs_machine.specs.Credit.{settle}
 use Rattle.qs_machine.specs.Seen.{Seen, Ack, Stream, Control}
 use Rattle.qs_machine.specs.FrameStep.{frame_taken, item_taken, named}
-use Rattle.qs_machine.specs.Setting.{Grant, SendBuffer, StreamWindow}
 use Rattle.qs_machine.specs.EndStep.{Call, Answer, EndStep}
-use Rattle.qs_machine.proofs.EveryCall.{Change, changed, Comes, relates, Wanted, Opened, Stopped, Forgotten, WasRead, WasSet, Took, Acked, Put, Settled}
+use Rattle.qs_machine.proofs.EveryCall.{Change, changed, Comes, relates}
 use Rattle.qs_machine.proofs.Leaves.{acks_leave, put_leaves}
 use Rattle.qs_machine.proofs.Counts.{no_lane}
 use Rattle.qs_machine.proofs.TableLaws.{slots_updated, slots_opened, slots_each}
@@ -52,33 +47,19 @@ some_at (x ∷ bytes) zero lt = refl
 some_at (x ∷ bytes) (suc k) lt = some_at bytes k (omega (arith, lt))
 
 stored_put : (r : NumberSet) (m : fmap.FinMap nat_cmp ℕ) (at : ℕ) (bytes : List ℕ) (q : ℕ) → (set.contains r q ≡ true → is_some (fmap.get m q) ≡ true) → (set.contains r q || is_in_run q at (length bytes)) ≡ true → is_some (fmap.get (store r m at bytes) q) ≡ true
-stored_put r m at bytes q was came = ap is_some (get-store r m at bytes q) ∙ go (set.contains r q) (is_in_run q at (length bytes)) refl refl
-  where
-    go : (c n : Bool) → set.contains r q ≡ c → is_in_run q at (length bytes) ≡ n → is_some (cond (n && not c) (byte_at at bytes q) (fmap.get m q)) ≡ true
-    go true true ec en = was ec
-    go true false ec en = was ec
-    go false false ec en = absurd (false≢true (sym (λ i. ec i || en i) ∙ came))
-    go false true ec en =
-        let low : nat_le at q ≡ true = grind (arith, nat_tests, en) in
-        let lt : q - at < length bytes = grind (arith, nat_tests, en) in
-        ap (λ b. is_some (cond b (slice_get bytes (q - at)) None)) low ∙ some_at bytes (q - at) lt
+stored_put r m at bytes q was came = grind (arith, nat_tests, get-store, is_in_run, not, false≢true, slice_get, some_at)
 
 stores_put : (a : Assembled) (offset : ℕ) (bytes : List ℕ) → Stores a → Stores (put a offset bytes)
 stores_put a offset bytes h open_end q low came = go a.discarding open_end
   where
     go : (d : Bool) → d ≡ false → is_some (fmap.get (cond d a.stored (store a.received a.stored offset bytes)) q) ≡ true
-    go true is = absurd (true≢false is)
-    go false is = stored_put a.received a.stored offset bytes q (h open_end q low) (sym (contains-with_range a.received offset (offset + length bytes) q) ∙ came)
+    go d is = grind (arith, nat_tests, true≢false, stored_put, contains-with_range)
 
 unread_read : (size : ℕ) (l : RecvLane) → Unread l → Unread (record l { arrived = take_front l.arrived size })
-unread_read size l h open_end q low came =
-    let le : nat_le (l.arrived.read_count + length (front_of l.arrived size)) q ≡ true = grind (arith, nat_tests, low) in
-    ap is_some (get-keep_from l.arrived.stored (l.arrived.read_count + length (front_of l.arrived size)) q) ∙ ap (λ b. is_some (cond b (fmap.get l.arrived.stored q) None)) le ∙ h open_end q (omega (arith, low)) came
+unread_read size l h open_end q low came = grind (arith, nat_tests, get-keep_from)
 
 unread_answer : (r : Read) (size : ℕ) (l : RecvLane) → Unread l → Unread (after_answer r l size)
-unread_answer (reads.Bytes n) size l h = unread_read size l h
-unread_answer reads.Wait size l h = h
-unread_answer r size l h = h
+unread_answer r size l h = grind (arith, nat_tests, unread_read)
 
 unread_stop : (code : ℕ) (l : RecvLane) → Unread l → Unread (stop l code)
 unread_stop code l h = cond_both (is_some l.stop_code || is_over l) l (record l { arrived = discard l.arrived; stop_code = Some code }) Unread (λ _. h) (λ _ open_end. absurd (true≢false open_end))
@@ -87,8 +68,7 @@ unread_stream : (offset : ℕ) (bytes : List ℕ) (fin : Bool) (l : RecvLane) �
 unread_stream offset bytes fin l h = cond_both (is_some l.reset_code) l.arrived (put l.arrived offset bytes) Stores (λ _. h) (λ _. stores_put l.arrived offset bytes h)
 
 unread_reset : (code size : ℕ) (l : RecvLane) → Unread l → Unread (take_reset l code size)
-unread_reset code size l h =
-    cond_both (is_some l.reset_code || is_whole l) l (record l { arrived = forget l.arrived; final_size = Some size; reset_code = Some code }) Unread (λ _. h) (λ _ open_end. absurd (true≢false open_end))
+unread_reset code size l h = grind (arith, nat_tests)
 
 -- All halves
 
@@ -122,12 +102,7 @@ all_settles e all = slots_each (λ m o. Slot o) raise e.recvs (λ m. go (lookup 
     go (Some l) h = h
 
 all_item : (i : Item) (e : End) → All e.recvs → All (item_taken i e).recvs
-all_item (MaxStreamData n m) e all = all_opened n e all
-all_item (MaxStreams Bidi m) e all = all
-all_item (ResetStream n code size) e all = all_updated (opened_by_peer n e).recvs n (λ l. take_reset l code size) (all_opened n e all) (unread_reset code size)
-all_item (StopSending n code) e all = all_opened n e all
-all_item (StreamDataBlocked n m) e all = all_opened n e all
-all_item _ e all = all
+all_item i e all = grind (arith, nat_tests, all_opened, all_updated, unread_reset)
 
 all_frame : (f : Seen) (e : End) → All e.recvs → All (frame_taken f e).recvs
 unfolding frame_taken
@@ -137,19 +112,7 @@ all_frame (Control i) e all = all_item i e all
 all_frame _ e all = all
 
 all_change : (old : End) (call : Call) (c : Change) (e : End) → Comes old call e c → All e.recvs → All (changed c e).recvs
-all_change old call (Wanted Uni count) e comes all = all
-all_change old call (Opened n) e comes all = all_opens n e all
-all_change old call (Stopped n code) e comes all = all_updated e.recvs n (λ m. stop m code) all (unread_stop code)
-all_change old call (Forgotten n code) e comes all = all_updated e.recvs n (λ m. stop_and_discard m code) all (unread_stop code)
-all_change old call (WasRead n size) e comes all = all_updated e.recvs n (λ m. after_read m size) all (λ l. unread_answer (read_answer l size) size l)
-all_change old call (WasSet (SendBuffer n size)) e comes all = all
-all_change old call (WasSet (Grant Uni n)) e comes all = all
-all_change old call (WasSet (StreamWindow n w)) e comes all = all_updated e.recvs n (λ l. set_window l w) all (λ l was. was)
-all_change old call (Took f) e comes all = all_frame f e all
-all_change old call (Acked count ranges) e comes all = subst All (sym (ap (λ (x : End). x.recvs) (acks_leave (take count (named e ranges)) e))) all
-all_change old call (Put f) e comes all = subst All (sym (ap (λ (x : End). x.recvs) (put_leaves f e))) all
-all_change old call Settled e comes all = all_settles e all
-all_change old call c e comes all = all
+all_change old call c e comes all = grind (arith, nat_tests, all_opens, all_updated, unread_stop, unread_answer, all_frame, acks_leave, put_leaves, all_settles)
 
 all_call : (old : End) (call : Call) (answer : Answer call) (new : End) → EndStep old call answer new → All old.recvs → All new.recvs
 all_call old call answer new step = relates (λ e f. All e.recvs → All f.recvs) (λ e all. all) (λ e f g x y all. y (x all)) old call (all_change old call) answer new step
@@ -169,8 +132,7 @@ none_unread a b h w run s n l is = subst Slot is (all_run a b h w run s n)
 -- A read of a stream with news
 
 front_some : (o : Option ℕ) (rest : List ℕ) → is_some o ≡ true → 0 < length (front_from o rest)
-front_some None rest none = absurd (false≢true none)
-front_some (Some byte) rest some = omega arith
+front_some o rest none = grind (arith, nat_tests)
 
 front_has_one : (m : fmap.FinMap nat_cmp ℕ) (at size : ℕ) → is_some (fmap.get m at) ≡ true → 0 < length (front m at (suc size))
 unfolding front
@@ -182,43 +144,17 @@ module _ (l : RecvLane) (size : ℕ) where
   answer_with stopped whole at_end came n = cond stopped (cond whole reads.End reads.Wait) (cond at_end reads.End (cond came (reads.Bytes n) reads.Wait))
 
   same_news : tells_something (read_answer l 1) ≡ tells_something (read_answer l (suc size))
-  same_news = by_reset l.reset_code
-    where
-      go : (s w a t : Bool) (m n : ℕ) → tells_something (answer_with s w a t m) ≡ tells_something (answer_with s w a t n)
-      go true true a t m n = refl
-      go true false a t m n = refl
-      go false w true t m n = refl
-      go false w false true m n = refl
-      go false w false false m n = refl
-
-      by_reset : (o : Option ℕ) → tells_something (answer_by o l 1) ≡ tells_something (answer_by o l (suc size))
-      by_reset (Some code) = refl
-      by_reset None = go (is_some l.stop_code) (is_whole l) (at_final_size l.arrived.read_count l.final_size) (set.contains l.arrived.received l.arrived.read_count) (length (front_of l.arrived 1)) (length (front_of l.arrived (suc size)))
+  same_news = grind (arith, nat_tests)
 
   has_front : IsLawful l → Unread l → (n : ℕ) → read_answer l (suc size) ≡ reads.Bytes n → 0 < length (front_of l.arrived (suc size))
-  has_front lawful unread n is = by_reset l.reset_code refl is
-    where
-      go : (s w a t : Bool) → is_some l.stop_code ≡ s → is_some l.reset_code ≡ false → set.contains l.arrived.received l.arrived.read_count ≡ t → answer_with s w a t (length (front_of l.arrived (suc size))) ≡ reads.Bytes n → 0 < length (front_of l.arrived (suc size))
-      go true true a t es er et e = absurd cc
-      go true false a t es er et e = absurd cc
-      go false w true t es er et e = absurd cc
-      go false w false false es er et e = absurd cc
-      go false w false true es er et e = front_has_one l.arrived.stored l.arrived.read_count size (unread (lawful.discards ∙ (λ i. er i || es i)) l.arrived.read_count (omega arith) et)
-
-      by_reset : (o : Option ℕ) → l.reset_code ≡ o → answer_by o l (suc size) ≡ reads.Bytes n → 0 < length (front_of l.arrived (suc size))
-      by_reset (Some code) er e = absurd cc
-      by_reset None er e = go (is_some l.stop_code) (is_whole l) (at_final_size l.arrived.read_count l.final_size) (set.contains l.arrived.received l.arrived.read_count) refl (ap is_some er) refl e
+  has_front lawful unread n is = grind (arith, nat_tests, front_has_one)
 
   -- it changes the half
   pub news_read : IsLawful l → Unread l → is_readable l ≡ true → after_read l (suc size) ≡ l → ⊥
   news_read lawful unread news = go (read_answer l (suc size)) refl
     where
       untold : l.reader_done ≡ false
-      untold = not_told l.reader_done (and_parts (not l.reader_done) (tells_something (read_answer l 1)) news).0
-        where
-          not_told : (b : Bool) → not b ≡ true → b ≡ false
-          not_told true is = absurd (false≢true is)
-          not_told false is = refl
+      untold = grind (arith, nat_tests)
 
       go : (r : Read) → read_answer l (suc size) ≡ r → after_answer r l (suc size) ≡ l → ⊥
       go (reads.Bytes n) is same = (let some = has_front lawful unread n is in let count = ap (λ (x : RecvLane). x.arrived.read_count) same in omega (arith, some, count))

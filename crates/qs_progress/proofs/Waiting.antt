@@ -1,19 +1,17 @@
 -- How many packets are outstanding: each loss takes one away, and what comes adds none.
-use Rattle.std.proofs.Common.{inl, inr, ◌≡◌, ℕ, ◌+◌, ◌-◌, ◌≤◌, true, false, cond, nat_cmp, List, [], ◌∷◌, Bool, Option, Some, None, is_some, refl, sym, ap, ◌∙◌, subst, arith}
+use Rattle.std.proofs.lemmas.Bool.Decides.{nat_tests}
+use Rattle.std.proofs.Common.{inl, inr, ◌≡◌, ℕ, ◌+◌, ◌-◌, ◌≤◌, true, false, cond, nat_cmp, List, [], ◌∷◌, Bool, Some, is_some, sym, ap, ◌∙◌, arith}
 use Rattle.std.specs.Prelude.{Ok, Err, Result}
 use Rattle.std.specs.FinMap as fmap
 use Rattle.std.specs.Cmp.{nat_cmp_total}
 use Rattle.std.proofs.lemmas.Bool.{cases_lt, cond_both, false≢true}
-use Rattle.std.proofs.lemmas.Option.{none-some}
-use Rattle.qs_wire.specs.declared.stream_id.Dir.TheVariants.{Uni}
 use Rattle.qs_send.specs.Records.{PacketPieces, NoneEmpty, without_first}
-use Rattle.qs_send.specs.declared.piece.Item.TheVariants.{MaxStreamData, MaxStreams, ResetStream, StopSending, StreamDataBlocked}
 use Rattle.qs_send.specs.declared.piece.Piece.{Piece}
 use Rattle.qs_send.proofs.Carrying.{rest_of, get_same-without_first}
 use Rattle.qs_calls.specs.declared.making.LostFault.{LostFault}
 use Rattle.qs_machine.specs.Ends.{End, is_own, opens, opened_by_peer}
-use Rattle.qs_machine.specs.Seen.{Seen, Ack, Stream, Control}
-use Rattle.qs_machine.specs.FrameStep.{AckedPiece, frame_taken, frames_taken, first_acked, without_piece, acks, named}
+use Rattle.qs_machine.specs.Seen.{Seen}
+use Rattle.qs_machine.specs.FrameStep.{AckedPiece, frame_taken, frames_taken, first_acked, without_piece, acks}
 use Rattle.qs_machine.specs.Making.{LoseStep, lose_refusal, losses, first_lost}
 use Rattle.qs_machine.proofs.AcksAgain.{held_piece}
 use Rattle.qs_runs.proofs.Standing.{certain_cases}
@@ -33,13 +31,7 @@ goes_len : (m : PacketPieces) (k : ℕ) → is_some (fmap.get m k) ≡ true → 
 goes_len m k held = (let less = fmap.len-remove nat_cmp_total m k ∙ ap (λ b. cond b (fmap.len m - 1) (fmap.len m)) held in let some = some_len m k held in omega (arith, less, some))
 
 less_first : (m : PacketPieces) (k : ℕ) → fmap.len (without_first m k (fmap.get m k)) ≤ fmap.len m
-less_first m k = go (fmap.get m k) refl
-  where
-    go : (o : Option (List Piece)) → fmap.get m k ≡ o → fmap.len (without_first m k o) ≤ fmap.len m
-    go None is = omega arith
-    go (Some []) is = (let one = goes_len m k (ap is_some is) in omega (arith, one))
-    go (Some (p ∷ [])) is = (let one = goes_len m k (ap is_some is) in omega (arith, one))
-    go (Some (p ∷ q ∷ ps)) is = (let same = stays_len m k (q ∷ ps) (ap is_some is) in omega (arith, same))
+less_first m k = grind (arith, nat_tests, goes_len, stays_len)
 
 -- Losses
 
@@ -85,22 +77,14 @@ acks_len (a ∷ ps) e =
     omega (arith, one, same, more)
   where
     first : (b : Bool) → fmap.len (without_piece b a.number e).outstanding ≤ fmap.len e.outstanding
-    first true = omega arith
-    first false = less_first e.outstanding a.number
+    first b = grind (arith, nat_tests, less_first)
 
 opened_len : (n : ℕ) (e : End) → fmap.len (opened_by_peer n e).outstanding ≤ fmap.len e.outstanding
 opened_len n e = cond_both (is_own e n) e (opens n e) (λ x. fmap.len x.outstanding ≤ fmap.len e.outstanding) (λ _. omega arith) (λ _. omega arith)
 
 frame_len : (f : Seen) (e : End) → fmap.len (frame_taken f e).outstanding ≤ fmap.len e.outstanding
 unfolding frame_taken
-frame_len (Ack largest ranges) e = acks_len (named e ranges) e
-frame_len (Stream n offset bytes fin) e = opened_len n e
-frame_len (Control (MaxStreamData n m)) e = opened_len n e
-frame_len (Control (MaxStreams Uni m)) e = omega arith
-frame_len (Control (ResetStream n code size)) e = opened_len n e
-frame_len (Control (StopSending n code)) e = opened_len n e
-frame_len (Control (StreamDataBlocked n m)) e = opened_len n e
-frame_len f e = omega arith
+frame_len f e = grind (arith, nat_tests, acks_len, opened_len)
 
 pub frames_len : (fs : List Seen) (e : End) → fmap.len (frames_taken fs e).outstanding ≤ fmap.len e.outstanding
 unfolding frames_taken

@@ -1,24 +1,20 @@
 -- What is put in packets has the present value, and values don't fall: so none in a packet, and none acknowledged, is above it.
-use Rattle.std.proofs.Common.{◌≡◌, ℕ, Bool, true, false, cond, ◌||◌, ◌++◌, List, [], ◌∷◌, ◌⊎◌, take, Option, Some, None, is_some, refl, sym, ap, ◌∙◌, subst, inl, inr, arith}
+use Rattle.std.proofs.lemmas.Bool.Decides.{nat_tests}
+use Rattle.std.proofs.Common.{◌≡◌, ℕ, Bool, true, false, cond, ◌++◌, List, [], ◌∷◌, ◌⊎◌, take, Option, Some, None, refl, sym, ap, ◌∙◌, subst, inl, inr, arith}
 use Rattle.std.specs.Prelude.{max}
 use Rattle.std.specs.List.{AllByRecursion}
 use Rattle.std.specs.FinMap as fmap
 use Rattle.std.specs.Ordering.{nat_cmp, eq_by_cmp}
-use Rattle.std.specs.Cmp.{nat_cmp_total, unsigned_tied}
-use Rattle.std.proofs.lemmas.Bool.{cases_lt, eqb-true, cond_both, or_left, true≢false}
-use Rattle.std.proofs.lemmas.Option.{none-some, same_Some}
+use Rattle.std.specs.Cmp.{nat_cmp_total}
+use Rattle.std.proofs.lemmas.Bool.{cond_both}
+use Rattle.std.proofs.lemmas.Option.{none-some}
 use Rattle.qs_wire.specs.declared.stream_id.Role.{Role}
 use Rattle.qs_wire.specs.declared.stream_id.Role.TheVariants.{Client, Server}
 use Rattle.qs_wire.specs.declared.stream_id.Dir.TheVariants.{Bidi, Uni}
-use Rattle.qs_recv.specs.Assembled.{discard, forget}
-use Rattle.qs_recv.specs.Lane.{RecvLane, after_answer, read_answer, stop, is_over, is_whole}
-use Rattle.qs_recv.specs.declared.half.Read.{Read}
-use Rattle.qs_recv.specs.declared.half.Read.TheVariants as reads
-use Rattle.qs_send.specs.Lane.{SendLane, reset_refusal, broken_off, first_code, stop_taken, sent_lane, is_whole as is_whole_sent}
+use Rattle.qs_recv.specs.Lane.{RecvLane}
+use Rattle.qs_send.specs.Lane.{SendLane, sent_lane}
 use Rattle.qs_send.specs.Records.{Among, IsCarried}
 use Rattle.qs_send.specs.declared.parts.Reset.{Reset}
-use Rattle.qs_send.specs.declared.parts.SendFault.{SendFault}
-use Rattle.qs_send.specs.declared.parts.SendFault.TheVariants.{WasReset, Finished}
 use Rattle.qs_send.specs.declared.piece.Item.{Item}
 use Rattle.qs_send.specs.declared.piece.Item.TheVariants.{MaxData, MaxStreamData, MaxStreams, ResetStream, StopSending, DataBlocked, StreamDataBlocked, StreamsBlocked}
 use Rattle.qs_send.specs.declared.piece.Piece.{Piece}
@@ -40,7 +36,7 @@ use Rattle.qs_machine.proofs.Pieces.{All_at, All_take, all_named}
 use Rattle.qs_machine.proofs.Carried.{carried_is}
 use Rattle.qs_machine.proofs.LostSent.{lost_carried}
 use Rattle.qs_machine.proofs.EndsAfter.{carried_without}
-use Rattle.qs_machine.proofs.EachHalf.{SendEdit, Resets, IsAsked, send_edited, sends_kept, RecvEdit, Stops, Forgets, Reads, IsReset, recv_edited, recvs_kept}
+use Rattle.qs_machine.proofs.EachHalf.{SendEdit, send_edited, sends_kept, RecvEdit, recv_edited, recvs_kept}
 use Rattle.qs_machine.proofs.EveryCall.{Change, changed, Comes, each_call, Wanted, WasSet, Took, Acked, Put, Lost}
 use Rattle.qs_machine.proofs.Rising.{rises_call}
 use Rattle.qs_runs.specs.Worlds.{end_of}
@@ -53,30 +49,14 @@ use Rattle.qs_progress.proofs.Items.{grown_call}
 -- What is acknowledged
 
 greatest_is : (o : Option ℕ) (v m : ℕ) → greatest o v ≡ Some m → (o ≡ Some m) ⊎ (m ≡ v)
-greatest_is None v m is = inr (sym (same_Some v m is))
-greatest_is (Some k) v m is =
-    let e : max k v ≡ m = same_Some (max k v) m is in
-    elim (cases_lt k v) [
-      | inl lt ↦ inr (omega (arith, lt, e))
-      | inr ge ↦ (let same : k ≡ m = omega (arith, ge, e) in inl (ap Some same))
-    ]
-
-max_is : (o : Option ℕ) (v m : ℕ) → max (or_zero o) v ≡ m → (o ≡ Some m) ⊎ (m ≡ v)
-max_is None v m e = inr (omega (arith, e))
-max_is (Some k) v m e = greatest_is (Some k) v m (ap Some e)
+greatest_is o v m is = grind (arith, nat_tests)
 
 -- of the values of streams
 greatest_of_is : (values : fmap.FinMap nat_cmp ℕ) (n v k m : ℕ) → fmap.get (greatest_of values n v) k ≡ Some m → (fmap.get values k ≡ Some m) ⊎ ((k ≡ n) × (m ≡ v))
 greatest_of_is values n v k m is = go (eq_by_cmp nat_cmp k n) refl (sym (fmap.get-insert nat_cmp_total values n (max (or_zero (fmap.get values n)) v) k) ∙ is)
   where
     go : (b : Bool) → eq_by_cmp nat_cmp k n ≡ b → cond b (Some (max (or_zero (fmap.get values n)) v)) (fmap.get values k) ≡ Some m → (fmap.get values k ≡ Some m) ⊎ ((k ≡ n) × (m ≡ v))
-    go false other at = inl at
-    go true tied at =
-        let same : k ≡ n = eqb-true k n (sym (unsigned_tied k n) ∙ tied) in
-        elim (max_is (fmap.get values n) v m (same_Some _ m at)) [
-          | inl was ↦ inl (ap (fmap.get values) same ∙ was)
-          | inr e ↦ inr (same, e)
-        ]
+    go b other at = grind (arith, nat_tests)
 
 one_item : (item : ℕ → Item) (o : Option ℕ) (v m : ℕ) → greatest o v ≡ Some m → (o ≡ Some m) ⊎ (item m ≡ item v)
 one_item item o v m is = elim (greatest_is o v m is) [ inl was ↦ inl was | inr e ↦ inr (ap item e) ]
@@ -115,10 +95,7 @@ kept_item j e i is = inl is
 
 -- acknowledging leaves the records
 carried_acked : (late : Bool) (p : Piece) (e : End) (q : Piece) → IsCarried (held late (piece_acked p e)) q → IsCarried (held late e) q
-carried_acked late (Data n c) e q is = is
-carried_acked late (Told (MaxStreams Uni m)) e q is = is
-carried_acked late (Told (StreamsBlocked Uni m)) e q is = is
-carried_acked late (Told i) e q is = is
+carried_acked late p e q is = grind (arith, nat_tests)
 
 kept_piece : (p : Piece) (e : End) (i : Item) → IsKept (piece_acked p e).acked i → IsKept e.acked i ⊎ (p ≡ Told i)
 kept_piece (Data n c) e i is = inl is
@@ -171,8 +148,7 @@ put_noted p e i (inl (false, is)) = elim (carried_is e.outstanding e.next p (Tol
 put_noted p e i (inr is) = inl (inr is)
 
 put_item : (j : Item) (e : End) (i : Item) → WasPut (item_put j e) i → WasPut e i
-put_item (StreamDataBlocked n m) e i is = is
-put_item j e i is = is
+put_item j e i is = grind (arith, nat_tests)
 
 -- what was put before a call, or was the present value then
 abbrev FromOld : End → End → Type 0
@@ -223,41 +199,14 @@ from_call old call answer new step =
 abbrev KeepsReset : SendLane → SendLane → Type 0
 KeepsReset l m = (r : Reset) → l.was_reset ≡ Some r → m.was_reset ≡ Some r
 
--- what was reset isn't reset again
-unless_reset : (l m : SendLane) → KeepsReset l (cond (is_some (reset_refusal l)) l m)
-unless_reset l m = cond_both (is_some (reset_refusal l)) l m (KeepsReset l) (λ _ r is. is) (λ free r is. absurd (true≢false (sym (refused r is) ∙ free)))
-  where
-    refused : (r : Reset) → l.was_reset ≡ Some r → is_some (reset_refusal l) ≡ true
-    refused r is = ap (λ o. is_some {T = SendFault} (cond (is_some o) (Some WasReset) (cond (is_whole_sent l) (Some Finished) None))) is
-
-stop_keeps : (answers : Bool) (code : ℕ) (l : SendLane) → KeepsReset l (stop_taken answers l code)
-stop_keeps true code l = unless_reset l (record l { stopped = first_code l.stopped code })
-stop_keeps false code l = unless_reset l (record (broken_off l code) { stopped = first_code l.stopped code })
-
 keeps_reset : (x : SendEdit) (l : SendLane) → KeepsReset l (send_edited x l)
-keeps_reset (Resets code) l r is = unless_reset l (broken_off l code) r is
-keeps_reset (IsAsked answers code) l r is = stop_keeps answers code l r is
-keeps_reset x l r is = is
+keeps_reset x l r is = grind (arith, nat_tests)
 
 abbrev KeepsStop : RecvLane → RecvLane → Type 0
 KeepsStop l m = (code : ℕ) → l.stop_code ≡ Some code → m.stop_code ≡ Some code
 
-stopped_keeps : (code : ℕ) (l : RecvLane) → KeepsStop l (stop l code)
-stopped_keeps code l =
-    cond_both (is_some l.stop_code || is_over l) l (record l { arrived = discard l.arrived; stop_code = Some code }) (KeepsStop l) (λ _ c is. is)
-    (λ free c is. absurd (true≢false (sym (or_left (is_some l.stop_code) (is_over l) (ap is_some is)) ∙ free)))
-
-read_keeps : (answer : Read) (size : ℕ) (l : RecvLane) → KeepsStop l (after_answer answer l size)
-read_keeps (reads.Bytes n) size l c is = is
-read_keeps answer size l c is = is
-
 keeps_stop : (x : RecvEdit) (l : RecvLane) → KeepsStop l (recv_edited x l)
-keeps_stop (Stops code) l c is = stopped_keeps code l c is
-keeps_stop (Forgets code) l c is = stopped_keeps code l c is
-keeps_stop (Reads size) l c is = read_keeps (read_answer l size) size l c is
-keeps_stop (IsReset code size) l c is =
-    cond_both (is_some l.reset_code || is_whole l) l (record l { arrived = forget l.arrived; final_size = Some size; reset_code = Some code }) (KeepsStop l) (λ _ k at. at) (λ _ k at. at) c is
-keeps_stop x l c is = is
+keeps_stop x l c is = grind (arith, nat_tests)
 
 pub within_call : (old : End) (call : Call) (answer : CallAnswer call) (new : End) → EndStep old call answer new → (i : Item) → IsWithin old i → IsWithin new i
 within_call old call answer new step (MaxData m) is = omega (arith, is, (rises_call old call answer new step).0)
@@ -287,11 +236,7 @@ now_within e (StreamDataBlocked n m) (l, at, no_reset, same, more, end) = (l, at
 now_within e (StreamsBlocked d m) is = omega (arith, is.1)
 
 pub all_within_call : (old : End) (call : Call) (answer : CallAnswer call) (new : End) → EndStep old call answer new → AllWithin old → AllWithin new
-all_within_call old call answer new step h i is =
-    elim (from_call old call answer new step i is) [
-      | inl was ↦ within_call old call answer new step i (h i was)
-      | inr now ↦ within_call old call answer new step i (now_within old i now)
-    ]
+all_within_call old call answer new step h i is = grind (arith, nat_tests, from_call, within_call, now_within)
 
 -- of a new end nothing was put
 new_put : (role : Role) (s : Settings) (t : Tuning) (p : PeerLimits) (i : Item) → WasPut (new_end role s t p) i → ⊥
