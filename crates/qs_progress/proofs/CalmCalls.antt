@@ -39,7 +39,7 @@ use Rattle.qs_machine.specs.Filling.{FillAt}
 use Rattle.qs_machine.specs.Alone.{is_ours, TakesOne, TakeBy, TakesEach, TakeAllBy, token_refusal, only, after_one, TokenAckedStep}
 use Rattle.qs_machine.specs.Owner.{AcceptStep, AcceptOfStep, AcceptOpen, AcceptOpenOf, GivesNone, GivesBidi, GivesUni, ReadBy, recv_refusal, is_read_no_more}
 use Rattle.qs_machine.specs.EndStep.{Call, Answer, EndStep, Open, Accept, AcceptOf, Write, Finish, Reset, Stop, StopAndDiscard, ReadUpTo, Consume, Receive, TakeFrame, TakeFrames, TokenAcked, TokenLost, Make, MakeAck, FillIn, Lose, Claim, RaiseLimits, Set, NoteClosed}
-use Rattle.qs_machine.proofs.EveryCall.{by_refusal, if_allowed, by_test, stops_by, by_open, closed_same}
+use Rattle.qs_machine.proofs.EveryCall.{given_is_no_fault, by_refusal, if_allowed, by_test, stops_by, by_open, closed_same}
 use Rattle.qs_machine.proofs.Again.{seen_in, takes_prefix}
 use Rattle.qs_runs.proofs.Receives.{took_effect}
 use Rattle.qs_progress.specs.Laps.{IsCalm}
@@ -109,11 +109,6 @@ takes_each (f ∷ fs) e answer new h = by (is_ours (seen f)) refl h (λ mid late
     by true ours (inr (fault, one, is)) goes = takes_one e f (Err fault) new ours one
     by false other more goes = goes e answer more
 
--- an ACK of a packet whose token was given is no fault
-given_fine : (e : End) (t : Token) → token_refusal e t ≡ None → verdict e (only t) ≡ None
-unfolding verdict
-given_fine e t allowed = grind (arith, nat_tests)
-
 module _ (old : End) (P : End → Type 0) (c : Forms old P) where
   stays : (new : End) → new ≡ old → P new
   stays new is = subst P (sym is) c.same
@@ -145,7 +140,7 @@ module _ (old : End) (P : End → Type 0) (c : Forms old P) where
   acked_by t answer new step =
       if_allowed (P new) (token_refusal old t) old answer new _ step (stays new) (λ allowed told.
       elim told [
-        | inl done ↦ led (frame_taken (only t) old) new (only t ∷ [], (given_fine old t allowed, tt), inl refl) done.1
+        | inl done ↦ led (frame_taken (only t) old) new (only t ∷ [], (given_is_no_fault old t allowed, tt), inl refl) done.1
         | inr (none, mid, out, is) ↦ led mid new (led_none old mid (runs_out (only t) old mid out)) is
       ])
 

@@ -1,10 +1,8 @@
 -- An ACK takes the pieces of each packet in the order in which they stand in its record.
-use Rattle.std.proofs.Common.{◌≡◌, ℕ, suc, ◌+◌, ◌<◌, ◌≤◌, Bool, true, false, cond, ◌&&◌, List, [], ◌∷◌, ◌++◌, map, take, nat_cmp, Option, Some, None, refl, sym, ap, ◌∙◌, subst, inl, inr, arith}
-use Rattle.std.specs.Prelude.{⊤, T, reverse, flat_map}
+use Rattle.std.proofs.Common.{◌≡◌, ℕ, suc, ◌+◌, Bool, true, false, cond, List, [], ◌∷◌, ◌++◌, map, take, Option, Some, None, refl, sym, ap, ◌∙◌, subst, inl, inr, arith}
+use Rattle.std.specs.Prelude.{⊤, reverse, flat_map}
 use Rattle.std.specs.List.{filter}
-use Rattle.std.specs.Ordering.{is_lt}
 use Rattle.std.specs.FinMap as fmap
-use Rattle.std.specs.FinMap.Entries.{below_all}
 use Rattle.std.proofs.lemmas.Grind.{reverse_onto}
 use Rattle.std.proofs.lemmas.Bool.Decides.{nat_tests}
 use Rattle.qs_send.specs.Records.{Among}
@@ -13,7 +11,7 @@ use Rattle.qs_send.proofs.Carrying.{rest_of, get_same-without_first}
 use Rattle.qs_machine.specs.Ends.{End, Records}
 use Rattle.qs_machine.specs.FrameStep.{AckedPiece, acked_at, held, pieces_of, acks, first_acked, named_in, named, acked_numbers}
 use Rattle.qs_machine.proofs.AcksAgain.{held_piece, first_other, piece_list, filter_among, reverse_among, late_stays}
-use Rattle.qs_machine.proofs.Named.{Rises}
+use Rattle.qs_machine.proofs.Named.{Rises, above, keys_rise}
 use Rattle.qs_runs.proofs.Lists.{Among_push}
 
 -- each piece is the first one of its packet's record when its turn comes
@@ -51,34 +49,12 @@ distinct_filter f (k ∷ ks) d = either (f k) (distinct_filter f ks d.1)
     either : (b : Bool) → Distinct (filter f ks) → Distinct (cond b (k ∷ filter f ks) (filter f ks))
     either b rest = grind (arith, nat_tests, filter_among)
 
-at_least : (low : ℕ) (ks : List ℕ) → Rises low ks → (j : ℕ) → Among j ks → low ≤ j
-at_least low [] r j a = absurd a
-at_least low (k ∷ ks) r j (inl e) = omega (arith, r.0, e)
-at_least low (k ∷ ks) r j (inr a) = (let le = at_least (k + 1) ks r.1 j a in omega (arith, r.0, le))
-
 distinct_rise : (low : ℕ) (ks : List ℕ) → Rises low ks → Distinct ks
 distinct_rise low [] r = tt
-distinct_rise low (k ∷ ks) r = ((λ a. let le = at_least (k + 1) ks r.1 k a in absurd (omega (arith, le))), distinct_rise (k + 1) ks r.1)
-
-and_first : (a b : Bool) → T (a && b) → T a
-and_first a b h = grind (arith, nat_tests)
-
-and_second : (a b : Bool) → T (a && b) → T b
-and_second a b h = grind (arith, nat_tests)
-
-less_is : (x y : ℕ) → T (is_lt (nat_cmp x y)) → x < y
-less_is x y h = grind (arith, nat_tests)
-
-rise_after : {X : Type 0} (x : ℕ) (es : List (ℕ × X)) → T (below_all nat_cmp x es) → T (fmap.is_sorted nat_cmp es) → Rises (x + 1) (map (λ e. e.0) es)
-rise_after x [] b s = tt
-rise_after x (e ∷ es) b s = ((let lt = less_is x e.0 (and_first _ _ b) in omega (arith, lt)), rise_after e.0 es (and_first _ _ s) (and_second _ _ s))
-
-rise : {X : Type 0} (es : List (ℕ × X)) → T (fmap.is_sorted nat_cmp es) → Rises 0 (map (λ e. e.0) es)
-rise [] s = tt
-rise (e ∷ es) s = (omega arith, rise_after e.0 es (and_first _ _ s) (and_second _ _ s))
+distinct_rise low (k ∷ ks) r = ((λ a. let le = above (k + 1) ks r.1 k a in absurd (omega (arith, le))), distinct_rise (k + 1) ks r.1)
 
 distinct_keys : (m : Records) → Distinct (fmap.keys m)
-distinct_keys m = distinct_rise 0 (fmap.keys m) (rise (fmap.entries m) (fmap.entries_sorted m))
+distinct_keys m = distinct_rise 0 (fmap.keys m) (keys_rise m)
 
 -- One packet
 
