@@ -1,7 +1,8 @@
 -- A sending half that is allowed more, reset and acknowledged; and what an ACK does to an end.
+use Rattle.std.proofs.lemmas.Bool.Decides.{nat_tests}
 use Rattle.std.proofs.Common.{◌≡◌, ℕ, ◌+◌, ◌-◌, ◌≤◌, max, Bool, true, false, List, [], ◌∷◌, drop, length, Option, Some, None, is_some, refl, sym, ap, ◌∙◌, subst, arith, inl, inr, if◌then◌else◌, drop-drop}
 use Rattle.std.proofs.lemmas.Option.{none-some, same_Some}
-use Rattle.std.proofs.lemmas.Bool.{or_cases, true≢false, cases_lt}
+use Rattle.std.proofs.lemmas.Bool.{or_cases, cases_lt}
 use Rattle.std.specs.FinMap as fmap
 use Rattle.std.specs.FinSet as set
 use Rattle.std.specs.List.{AllByRecursion}
@@ -9,7 +10,6 @@ use Rattle.qs_ranges.specs.Numbers.{missing_from}
 use Rattle.qs_wire.specs.declared.stream_id.Dir.TheVariants.{Uni}
 use Rattle.qs_send.specs.Lane.{SendLane, allow_lane, reset_lane, broken_off, first_code, stop_taken, reset_refusal, acked_lane, reset_acked_lane, unacked_from, chunk_offsets}
 use Rattle.qs_send.specs.declared.parts.Chunk.{Chunk}
-use Rattle.qs_send.specs.declared.parts.Reset.{Reset}
 use Rattle.qs_send.specs.declared.piece.Item.{Item}
 use Rattle.qs_send.specs.declared.piece.Item.TheVariants.{MaxStreamData, MaxStreams, ResetStream, StreamsBlocked}
 use Rattle.qs_send.specs.declared.piece.Piece.{Piece}
@@ -29,11 +29,7 @@ use Rattle.qs_machine.proofs.EveryCall.{same_either}
 
 -- what can be reset wasn't
 pub not_reset : (l : SendLane) → is_some (reset_refusal l) ≡ false → l.was_reset ≡ None
-not_reset l e = go l.was_reset refl
-  where
-    go : (o : Option Reset) → l.was_reset ≡ o → l.was_reset ≡ None
-    go None is = is
-    go (Some r) is = absurd (true≢false (rw is at e))
+not_reset l e = grind (arith, nat_tests)
 
 module _ (p : Past) (n limit : ℕ) (l : SendLane) (h : SendOk p n limit l) where
   pub allow_ok : (m : ℕ) → Tells p.theirs (Control (MaxStreamData n m)) → SendOk p n limit (allow_lane l m)
@@ -43,8 +39,7 @@ module _ (p : Past) (n limit : ℕ) (l : SendLane) (h : SendOk p n limit l) wher
   ])
 
   size_is_end : (b : Bool) → l.fin_sent ≡ b → (if b then l.written else l.sent_end) ≡ l.sent_end
-  size_is_end true e = sym (h.end e).1
-  size_is_end false e = refl
+  size_is_end b e = grind (arith, nat_tests)
 
   reset_by : (code : ℕ) (b : Bool) → is_some (reset_refusal l) ≡ b →
       SendOk p n limit (if b then l else record l { kept = []; was_reset = Some (record { code = code; size = if l.fin_sent then l.written else l.sent_end }) })
@@ -84,8 +79,7 @@ module _ (p : Past) (n limit : ℕ) (l : SendLane) (h : SendOk p n limit l) wher
   stopped_ok false code = stopped_by code (is_some (reset_refusal l)) refl
 
   pub stopped_end : (answers : Bool) (code : ℕ) → (stop_taken answers l code).sent_end ≡ l.sent_end
-  stopped_end true code = same_either (λ (m : SendLane). m.sent_end) (is_some (reset_refusal l)) l _ refl
-  stopped_end false code = same_either (λ (m : SendLane). m.sent_end) (is_some (reset_refusal l)) l _ refl
+  stopped_end answers code = grind (arith, nat_tests)
 
   pub reset_end : (code : ℕ) → (reset_lane l code).sent_end ≡ l.sent_end
   reset_end code = same_either (λ (m : SendLane). m.sent_end) (is_some (reset_refusal l)) l _ refl
@@ -142,24 +136,7 @@ module _ (p : Past) where
 
   -- fields that the invariant doesn't speak of may change, and records by what they hold
   pub with_records : {sent : ℕ} (e : End) (next : ℕ) (m : Records) (l : LostPackets) → EndHas p e sent → next ≡ length p.mine → StoodIn p.mine m → StoodIn p.mine l.pieces → EndHas p (record e { next = next; outstanding = m; lost = l }) sent
-  with_records e next m l ok count records lost_records =
-      record {
-        sends = ok.sends;
-        recvs = ok.recvs;
-        packets = record {
-          count = count;
-          records = records;
-          lost_records = lost_records;
-          acks_told = ok.packets.acks_told;
-          kinds = ok.packets.kinds;
-          is_done = ok.packets.is_done;
-          above = ok.packets.above;
-          kept = ok.packets.kept;
-        };
-        taken = ok.taken;
-        credit = ok.credit;
-        streams = ok.streams;
-      }
+  with_records e next m l ok count records lost_records = grind (arith, nat_tests)
 
   without_piece_ok : (late : Bool) (k : ℕ) (e : End) → EndOk p e → EndOk p (without_piece late k e)
   without_piece_ok true k e ok = with_records e e.next e.outstanding (lost_less k e.lost) ok ok.packets.count ok.packets.records (one_less_ok e.lost.pieces k ok.packets.lost_records)

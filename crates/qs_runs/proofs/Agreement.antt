@@ -1,12 +1,13 @@
 -- What the two halves of the invariant say together: of one lane, p is the past of its sender and q that of its receiver.
-use Rattle.std.proofs.Common.{◌≡◌, ℕ, ◌+◌, ◌-◌, ◌<◌, Bool, true, false, ◌==◌, length, Option, Some, None, slice_get, refl, sym, ap, ◌∙◌, arith, inl, inr, if◌then◌else◌, subst}
+use Rattle.std.proofs.lemmas.Bool.Decides.{nat_tests}
+use Rattle.std.proofs.Common.{◌≡◌, ℕ, ◌+◌, ◌-◌, ◌<◌, true, ◌==◌, length, Option, Some, None, slice_get, refl, sym, ap, ◌∙◌, arith, inl, inr, subst}
 use Rattle.std.proofs.lemmas.Option.{none-some, same_Some}
 use Rattle.std.proofs.lemmas.Bool.{and_parts, eqb-true}
 use Rattle.std.specs.FinSet as set
 use Rattle.qs_recv.specs.Lane.{RecvLane}
 use Rattle.qs_send.specs.Lane.{SendLane, state, is_whole, declared_size, unacked_from}
 use Rattle.qs_send.specs.declared.parts.Reset.{Reset}
-use Rattle.qs_send.specs.declared.parts.SendState.TheVariants.{Ready, Send, DataSent, DataRecvd}
+use Rattle.qs_send.specs.declared.parts.SendState.TheVariants.{DataRecvd}
 use Rattle.qs_machine.specs.Ends.{End, recv_lane}
 use Rattle.qs_machine.specs.Seen.{Seen, Stream}
 use Rattle.qs_runs.specs.Agree.{IsPrefixOf}
@@ -39,8 +40,7 @@ module _ (p q : Past) (n limit window : ℕ) (from : q.theirs ≡ p.mine) where
       (l, refl, told.0, sym told.1 ∙ is)
 
   pub written_count : (s : Option SendLane) (l : SendLane) → SendSlot p n limit s → s ≡ Some l → length (p.bytes n) ≡ l.written
-  written_count None l h e = absurd (none-some l e)
-  written_count (Some m) l h e = rw (same_Some m l e) at h.count
+  written_count s l h e = grind (arith, nat_tests)
 
   pub whole_agrees : (s : Option SendLane) (r : Option RecvLane) → SendSlot p n limit s → RecvSlot q n window r → q.ended n ≡ true → q.gave n ≡ p.bytes n
   whole_agrees s None hs hr is = absurd (cc (hr.no_end))
@@ -65,17 +65,8 @@ module _ (p q : Past) (n limit window : ℕ) (from : q.theirs ≡ p.mine) where
   declared_reset : (l : SendLane) (r : Reset) → l.was_reset ≡ Some r → declared_size l ≡ Some r.size
   declared_reset l r e = rw e refl
 
-  -- a sent end declares the written count, also after a reset
-  declared_end : (l : SendLane) → SendOk p n limit l → l.fin_sent ≡ true → declared_size l ≡ Some l.written
-  declared_end l h fin = go l.was_reset refl
-    where
-      go : (o : Option Reset) → l.was_reset ≡ o → declared_size l ≡ Some l.written
-      go None e = rw (e, fin) refl
-      go (Some r) e = declared_reset l r e ∙ ap Some (h.reset_size r e ∙ (h.end fin).1)
-
   declared_slot : (s : Option SendLane) (l : SendLane) → SendSlot p n limit s → s ≡ Some l → l.fin_sent ≡ true → declared_size l ≡ Some l.written
-  declared_slot None l h e fin = absurd (none-some l e)
-  declared_slot (Some m) l h e fin = rw (same_Some m l e) at (declared_end m h (rw (same_Some m l e) fin))
+  declared_slot s l h e fin = grind (arith, nat_tests)
 
   pub size_agrees : (s : Option SendLane) (r : RecvLane) (size : ℕ) → SendSlot p n limit s → RecvOk q n window r → r.final_size ≡ Some size → (l : SendLane) × (s ≡ Some l) × (declared_size l ≡ Some size)
   size_agrees s r size hs hr is =
@@ -84,19 +75,9 @@ module _ (p q : Past) (n limit window : ℕ) (from : q.theirs ≡ p.mine) where
         | inr t ↦ (let (l, at, same) = reset_told s t.0 size hs t.2 in (l, at, declared_reset l _ same))
       ]
 
-not_acked_state : (a b : Bool) → (if a then DataSent else (if b then Send else Ready)) ≡ DataRecvd → ⊥
-not_acked_state false true e = cc
-not_acked_state _ b e = cc
-
 -- a half in Data Recvd: no reset, and all was acknowledged
 acked_state : (l : SendLane) → state l ≡ DataRecvd → (l.was_reset ≡ None) × (is_whole l ≡ true)
-acked_state l e = go l.reset_acked l.was_reset (is_whole l) refl refl refl
-  where
-    go : (a : Bool) (o : Option Reset) (c : Bool) → l.reset_acked ≡ a → l.was_reset ≡ o → is_whole l ≡ c → (l.was_reset ≡ None) × (is_whole l ≡ true)
-    go true o c ea eo ec = absurd (cc (rw ea at e))
-    go false (Some r) c ea eo ec = absurd (cc (rw (ea, eo) at e))
-    go false None true ea eo ec = (eo, ec)
-    go false None false ea eo ec = absurd (not_acked_state _ _ (rw (ea, eo, ec) at e))
+acked_state l e = grind (arith, nat_tests)
 
 module _ (p q : Past) (n limit window : ℕ) (from : q.theirs ≡ p.mine) (f : End) (recvs : RecvSlot q n window (recv_lane f n))
     (acked_taken : (k : ℕ) (g : Seen) → Holds p.mine k g → WasConfirmed p.theirs p.tokens k → must_land g ≡ true → FrameTaken f.recvs g) where

@@ -1,11 +1,12 @@
 -- One half of an end is changed, and the invariant of the end stays: by reads, writes, and limits that move.
+use Rattle.std.proofs.lemmas.Bool.Decides.{nat_tests}
 use Rattle.std.proofs.Common.{◌≡◌, ℕ, ◌<◌, ◌≤◌, max, true, arith, Bool, List, [], Option, Some, None, is_some, refl, sym, ap, ◌∙◌, subst, inl, inr, ◌⊎◌, false, option_map, if◌then◌else◌, ◌≢◌, ◌+◌, ◌-◌, ◌++◌, length, nat_cmp, ◌==◌, length-append, append-nil}
 use Rattle.std.specs.FinSet as set
 use Rattle.qs_ranges.specs.Numbers.{NumberSet, missing_from, end_of}
 use Rattle.qs_ranges.proofs.Sets.{missing_from-is, missing_from-le, missing_from-more}
 use Rattle.qs_runs.proofs.Members.{end-le, get-front, get-kept}
 use Rattle.std.proofs.lemmas.Option.{same_Some, none-some}
-use Rattle.std.proofs.lemmas.Bool.{cases_eq, true≢false, false≢true, eqb-true, eq-eqb, ne_eqb, cond_both}
+use Rattle.std.proofs.lemmas.Bool.{cases_eq, true≢false, eq-eqb, ne_eqb, cond_both}
 use Rattle.qs_recv.specs.Lane.{RecvLane, raise, taken, set_window, read_answer, after_answer}
 use Rattle.qs_send.specs.Lane.{SendLane, write_lane, unacked_from, refusal}
 use Rattle.qs_send.specs.declared.piece.Item.TheVariants.{MaxStreamData, ResetStream}
@@ -25,7 +26,6 @@ use Rattle.qs_recv.specs.Assembled.{front_of, discard}
 use Rattle.qs_recv.specs.declared.half.Read.TheVariants as reads
 use Rattle.qs_runs.proofs.Lists.{slice_get-joined, slice_get-append, drop-joined}
 use Rattle.qs_send.specs.declared.parts.SendFault.TheVariants as sends
-use Rattle.qs_send.specs.declared.parts.Reset.{Reset}
 
 -- The lowest offset of a sending half that isn't acknowledged.
 
@@ -48,20 +48,7 @@ missing-more s t all = missing_from-more s t 0 all
 pub send_alike : {mine theirs more : Packets} {tokens told : ℕ → Bool} {all : List ℕ} {n first limit top buffer widest : ℕ} {finished blocked confirmed : Bool} {stopped : Option ℕ} {l : SendLane} → SendTrue mine theirs tokens all n first l →
     (l.finished ≡ true → finished ≡ true) → ((k : ℕ) → WasConfirmed theirs tokens k → WasConfirmed more told k) → l.sent_end ≤ top → (top ≤ limit) ⊎ Tells more (Control (MaxStreamData n top)) →
     SendTrue mine more told all n limit (record l { limit = top; buffer = buffer; widest = widest; finished = finished; blocked_sent = blocked; reset_acked = confirmed; stopped = stopped })
-send_alike h asked confirms below known =
-    record {
-      count = h.count;
-      kept = h.kept;
-      sent_written = h.sent_written;
-      sent_limit = below;
-      end = λ is. (asked (h.end is).0, (h.end is).1);
-      reset_size = h.reset_size;
-      told = h.told;
-      told_reset = h.told_reset;
-      acked = λ q is. (let (k, offset, bytes, fin, holds, low, high, ack) = h.acked q is in (k, offset, bytes, fin, holds, low, high, confirms k ack));
-      end_acked = λ is. (let (k, offset, bytes, holds, ack) = h.end_acked is in (k, offset, bytes, holds, confirms k ack));
-      limit_told = known;
-    }
+send_alike h asked confirms below known = grind (arith, nat_tests)
 
 -- what no clause speaks of
 pub send_same : {mine theirs : Packets} {tokens : ℕ → Bool} {all : List ℕ} {n limit buffer widest : ℕ} {blocked confirmed : Bool} {stopped : Option ℕ} {l : SendLane} → SendTrue mine theirs tokens all n limit l →
@@ -137,8 +124,7 @@ pub end_anew : {p : Past} {e : End} {sent less known granted bidi uni more_bidi 
 end_anew ok sends credit streams = record { sends = sends; recvs = ok.recvs; packets = ok.packets; taken = ok.taken; credit = credit; streams = streams }
 
 pub without_sum : (p : Past) (e : End) (sent less : ℕ) → EndHas p e sent → less ≤ e.known_data → EndHas p e less
-without_sum p e sent less ok le =
-    end_anew ok ok.sends (record { sent_known = le; known_told = ok.credit.known_told; window_granted = ok.credit.window_granted; granted_told = ok.credit.granted_told }) ok.streams
+without_sum p e sent less ok le = grind (arith, nat_tests)
 
 pub lane_changed : (p : Past) (e : End) (sent n : ℕ) (l m : SendLane) → EndHas p e sent → lookup e.sends n ≡ Some l → SendTrue p.mine p.theirs p.tokens (p.bytes n) n (first_send_limit e n) m → EndHas p (record e { sends = update e.sends n m }) sent
 lane_changed p e sent n l m ok is this =
@@ -196,8 +182,7 @@ pub each_grows : (f : RecvLane → RecvLane) (t : Tables RecvLane) → ((l : Rec
 each_grows f t grows n l is = (f l, lookup_each f t n ∙ ap (option_map f) is, grows l)
 
 pub some_mapped : {X : Type 0} (g : X → X) (o : Option X) → is_some (option_map g o) ≡ is_some o
-some_mapped g None = refl
-some_mapped g (Some x) = refl
+some_mapped g o = grind (arith, nat_tests)
 
 module _ (p : Past) (e : End) (ok : EndOk p e) where
   slot_raised : (n : ℕ) (o : Option RecvLane) → RecvSlot p n (first_window e n) o → RecvSlot p n (first_window e n) (option_map raise o)
@@ -232,39 +217,7 @@ window_ok p e n w ok = go (lookup e.recvs n) refl (ok.recvs n)
 
 -- `read` answers bytes: the half wasn't read to its end
 pub not_at_end : (l : RecvLane) (size count : ℕ) → read_answer l size ≡ reads.Bytes count → (end : ℕ) → l.final_size ≡ Some end → l.arrived.read_count ≢ end
-not_at_end l size count is end final same = go l.reset_code l.stop_code refl refl
-  where
-    stopped : (b : Bool) → (if b then reads.End else reads.Wait) ≡ reads.Bytes count → ⊥
-    stopped true e = cc
-    stopped false e = cc
-
-    more : (b : Bool) → b ≡ true → (if b then reads.End else (if set.contains l.arrived.received l.arrived.read_count then reads.Bytes (length (front_of l.arrived size)) else reads.Wait)) ≡ reads.Bytes count → ⊥
-    more true eb e = cc
-    more false eb e = absurd (false≢true eb)
-
-    go : (r s : Option ℕ) → l.reset_code ≡ r → l.stop_code ≡ s → ⊥
-    go (Some c) s er es = absurd (cc (rw er at is))
-    go None (Some c) er es = stopped _ (rw (er, es) at is)
-    go None None er es = more (l.arrived.read_count == end) (eq-eqb l.arrived.read_count end same) (rw (er, es, final) at is)
-
--- `read` answers End to a reader that didn't stop: the final size is known by FIN, and all was read
-pub read_end : (l : RecvLane) (size : ℕ) → read_answer l size ≡ reads.End → l.stop_code ≡ None → (end : ℕ) × (l.final_size ≡ Some end) × (l.arrived.read_count ≡ end) × (l.reset_code ≡ None)
-read_end l size is none = go l.reset_code l.final_size refl refl
-  where
-    more : (b : Bool) → (if b then reads.Bytes (length (front_of l.arrived size)) else reads.Wait) ≡ reads.End → ⊥
-    more true e = cc
-    more false e = cc
-
-    part : (end : ℕ) → l.reset_code ≡ None → l.final_size ≡ Some end → (b : Bool) → (l.arrived.read_count == end) ≡ b →
-        (if b then reads.End else (if set.contains l.arrived.received l.arrived.read_count then reads.Bytes (length (front_of l.arrived size)) else reads.Wait)) ≡ reads.End →
-        (end : ℕ) × (l.final_size ≡ Some end) × (l.arrived.read_count ≡ end) × (l.reset_code ≡ None)
-    part end er ef true eb h = (end, ef, eqb-true l.arrived.read_count end eb, er)
-    part end er ef false eb h = absurd (more _ h)
-
-    go : (r f : Option ℕ) → l.reset_code ≡ r → l.final_size ≡ f → (end : ℕ) × (l.final_size ≡ Some end) × (l.arrived.read_count ≡ end) × (l.reset_code ≡ None)
-    go (Some c) f er ef = absurd (cc (rw er at is))
-    go None (Some end) er ef = part end er ef _ refl (rw (er, none, ef) at is)
-    go None None er ef = absurd (more _ (rw (er, none, ef) at is))
+not_at_end l size count is end final same = grind (arith, nat_tests)
 
 pub told_grows : (l m : RecvLane) → Grows l m → Grows l (record m { reader_done = true })
 told_grows l m g = record { received = g.received; final = g.final; reset = g.reset }
@@ -272,68 +225,30 @@ told_grows l m g = record { received = g.received; final = g.final; reset = g.re
 module _ (p : Past) (n w : ℕ) (l : RecvLane) (h : RecvOk p n w l) where
   pub read_bytes_ok : (size count : ℕ) → ((end : ℕ) → l.final_size ≡ Some end → l.arrived.read_count ≢ end) →
       RecvTrue p.mine p.theirs (p.gave n ++ front_of l.arrived size) (p.stopped n) (p.ended n) n w (after_answer (reads.Bytes count) l size)
-  read_bytes_ok size count more =
-      record {
-        received = h.received;
-        stored = λ q b is. h.stored q b (get-kept l.arrived.stored (l.arrived.read_count + length (front_of l.arrived size)) q b is);
-        count = omega (arith, length-append (p.gave n) (front_of l.arrived size), h.count);
-        gave = λ q b is. elim (slice_get-joined (p.gave n) (front_of l.arrived size) q b is) [
-          | inl old ↦ h.gave q b old
-          | inr new ↦ (
-              let there = get-front l.arrived.stored l.arrived.read_count size (q - length (p.gave n)) b new.1 in
-              let same : l.arrived.read_count + (q - length (p.gave n)) ≡ q = omega (arith, h.count, new.0) in
-              h.stored q b (subst (λ x. fmap.get l.arrived.stored x ≡ Some b) same there))
-        ];
-        final = h.final;
-        reset = h.reset;
-        not_stopped = h.not_stopped;
-        ended = λ is. (let (size, read, final, t) = h.ended is in absurd (more size final read));
-        window_granted = h.window_granted;
-        limit_told = h.limit_told;
-      }
+  read_bytes_ok size count more = grind (arith, nat_tests, get-kept, length-append, slice_get-joined, get-front)
 
   pub read_told_ok : (ended : Bool) → (ended ≡ true → (size : ℕ) × (l.arrived.read_count ≡ size) × (l.final_size ≡ Some size) × TellsEnd p.theirs n size) → RecvTrue p.mine p.theirs (p.gave n) (p.stopped n) ended n w (record l { reader_done = true })
   read_told_ok ended is_end = recv_alike h (omega arith) is_end
 
   pub end_by_fin : (size : ℕ) → read_answer l size ≡ reads.End → l.stop_code ≡ None → (end : ℕ) × (l.arrived.read_count ≡ end) × (l.final_size ≡ Some end) × TellsEnd p.theirs n end
-  end_by_fin size is none =
-      let (end, final, read, no_reset) = read_end l size is none in
-      (end, read, final, elim (h.final end final) [ inl t ↦ t | inr t ↦ absurd (none-some t.0 (sym no_reset ∙ t.1)) ])
+  end_by_fin size is none = grind (arith, nat_tests)
 
   stopped_as : {stored : fmap.FinMap nat_cmp ℕ} {discarding : Bool} {code : Option ℕ} → ((q b : ℕ) → fmap.get stored q ≡ Some b → TellsByte p.theirs n q b) →
       RecvTrue p.mine p.theirs (p.gave n) true (p.ended n) n w (record l { arrived = record l.arrived { stored = stored; discarding = discarding }; stop_code = code })
-  stopped_as stored =
-      record {
-        received = h.received;
-        stored = stored;
-        count = h.count;
-        gave = h.gave;
-        final = h.final;
-        reset = h.reset;
-        not_stopped = λ is. absurd (true≢false is);
-        ended = h.ended;
-        window_granted = h.window_granted;
-        limit_told = h.limit_told;
-      }
+  stopped_as stored = grind (arith, nat_tests)
 
   pub stop_ok : (code : ℕ) (b : Bool) → RecvTrue p.mine p.theirs (p.gave n) true (p.ended n) n w (if b then l else record l { arrived = discard l.arrived; stop_code = Some code })
   stop_ok code true = stopped_as h.stored
   stop_ok code false = stopped_as (λ q b is. absurd (none-some b (sym (fmap.get-empty nat_cmp q) ∙ is)))
 
   pub stop_grows : (code : ℕ) (b : Bool) → Grows l (if b then l else record l { arrived = discard l.arrived; stop_code = Some code })
-  stop_grows code true = Grows_refl l
-  stop_grows code false = record { received = λ q is. is; final = λ size is. is; reset = λ none. none }
+  stop_grows code b = grind (arith, nat_tests)
 
 -- A sending half that is written to and finished.
 
 -- what a half that may be written says
 pub write_allowed : (l : SendLane) → refusal l ≡ None → (l.was_reset ≡ None) × (l.finished ≡ false)
-write_allowed l is = go l.was_reset refl l.finished refl
-  where
-    go : (o : Option Reset) → l.was_reset ≡ o → (b : Bool) → l.finished ≡ b → (l.was_reset ≡ None) × (l.finished ≡ false)
-    go (Some r) reset b end = absurd (none-some sends.WasReset (sym (rw reset at is)))
-    go None reset true end = absurd (none-some sends.Finished (sym (rw (reset, end) at is)))
-    go None reset false end = (reset, end)
+write_allowed l is = grind (arith, nat_tests)
 
 -- an acknowledged offset was written
 pub acked_written : (mine theirs : Packets) (tokens : ℕ → Bool) (all : List ℕ) (n limit : ℕ) (l : SendLane) → SendTrue mine theirs tokens all n limit l → (q : ℕ) → set.contains l.acked q ≡ true → q < l.written

@@ -1,6 +1,7 @@
 -- What comes of a packet of a claimed number.
+use Rattle.std.proofs.lemmas.Bool.Decides.{nat_tests}
+use Rattle.std.proofs.Common.{arith}
 use Rattle.std.proofs.Common.{◌≡◌, ℕ, ◌+◌, Bool, true, false, ◌||◌, List, [], ◌∷◌, ◌++◌, ◌⊎◌, length, Some, None, Result, Ok, Err, slice_get, refl, sym, ap, ◌∙◌, subst, inl, inr}
-use Rattle.std.proofs.Math.Bool.{or_assoc}
 use Rattle.std.proofs.lemmas.Bool.{true≢false}
 use Rattle.std.proofs.lemmas.Option.{same_Some}
 use Rattle.std.proofs.lemmas.List.{length-map}
@@ -14,24 +15,23 @@ use Rattle.qs_calls.specs.declared.settings.Tuning.{Tuning}
 use Rattle.qs_calls.specs.declared.settings.PeerLimits.{PeerLimits}
 use Rattle.qs_calls.specs.declared.closing.Closing.{Closing}
 use Rattle.qs_calls.specs.declared.closing.Received.{Received}
-use Rattle.qs_calls.specs.declared.closing.Received.TheVariants.{Done, Duplicate, BelowFloor, NoMemory}
+use Rattle.qs_calls.specs.declared.closing.Received.TheVariants.{Duplicate, BelowFloor}
 use Rattle.qs_calls.specs.declared.making.MakeFault.{MakeFault}
 use Rattle.qs_calls.specs.declared.event.Side.{Side}
 use Rattle.qs_machine.specs.Tables.{each}
 use Rattle.qs_machine.specs.Ends.{End, closes, new_end, wide_end_made}
 use Rattle.qs_machine.specs.Credit.{settle}
-use Rattle.qs_machine.specs.Seen.{Seen, Plain, seen, seen_all, asks_ack, any_asks}
+use Rattle.qs_machine.specs.Seen.{Seen, seen, seen_all, asks_ack, any_asks}
 use Rattle.qs_machine.specs.Verdicts.{verdict}
 use Rattle.qs_machine.specs.FrameStep.{frame_taken}
 use Rattle.qs_machine.specs.Recording.{recorded}
 use Rattle.qs_machine.specs.Receiving.{ReceiveStep, ReceiveBy, Takes, Stops, GoesOn, AtEnd}
-use Rattle.qs_machine.specs.Making.{ClaimStep, claim_refusal, first_lost}
+use Rattle.qs_machine.specs.Making.{ClaimStep, first_lost}
 use Rattle.qs_machine.specs.EndStep.{Call, Answer as CallAnswer, EndStep, Receive}
 use Rattle.qs_machine.specs.Repeats.{OnlyRecords}
 use Rattle.qs_machine.proofs.Counts.{new_ends_settled as new_counts_settled}
 use Rattle.qs_machine.proofs.EveryCall.{ends_by, by_open}
 use Rattle.qs_machine.proofs.Again.{settle_twice}
-use Rattle.qs_machine.proofs.Plains.{plain_stops}
 use Rattle.qs_machine.proofs.SettledLimits.{new_ends_settled}
 use Rattle.qs_runs.specs.Logs.{History, other, made, payload, was_noted_closed, ping_text}
 use Rattle.qs_runs.specs.Worlds.{World, end_of, May, Run}
@@ -71,9 +71,7 @@ plain_goes : (v : PlacedValue) (f : Seen) (gs : List Seen) (k : ℕ) (asks : Boo
     Stops v f e result mid ⊎ (GoesOn e f × Takes k None (asks || asks_ack f) (frame_taken f e) left result mid) →
     ((b : Bool) → but_plain gs ≡ [] → Takes k None b e left result mid → AtEnd k (b || any_asks gs) None e result mid) → AtEnd k (asks || (asks_ack f || any_asks gs)) None e result mid
 unfolding verdict frame_taken
-plain_goes v (Plain more) gs k asks e mid left result none (inr (goes, takes)) rest = subst (λ b. AtEnd k b None e result mid) (or_assoc asks more (any_asks gs)) (rest (asks || more) none takes)
-plain_goes v (Plain more) gs k asks e mid left result none (inl stops) rest = absurd (plain_stops v more e mid result stops)
-plain_goes v f gs k asks e mid left result none h rest = absurd (cc none)
+plain_goes v f gs k asks e mid left result none h rest = grind (arith, nat_tests)
 
 plain_taken : (left : List PlacedValue) (k : ℕ) (asks : Bool) (e mid : End) (result : Result Received Closing) → but_plain (seen_all (frames_of left)) ≡ [] → Takes k None asks e left result mid → AtEnd k (asks || any_asks (seen_all (frames_of left))) None e result mid
 plain_taken [] k asks e mid result none h = subst (λ b. AtEnd k b None e result mid) (sym (or_false asks)) h
@@ -85,9 +83,7 @@ plain_taken (v ∷ left) k asks e mid result none h =
     plain_goes v (seen v.frame) (seen_all (frames_of left)) k asks e mid left result none h (λ b others takes. plain_taken left k b e mid result others takes)
 
 plain_ends : (k : ℕ) (asks : Bool) (e mid new : End) (result : Result Received Closing) → settle e ≡ e → AtEnd k asks None e result mid → new ≡ settle mid → OnlyRecords k asks result e new
-plain_ends k asks e mid new (Ok Done) same end is = is ∙ ap settle end ∙ ap (recorded k asks) same
-plain_ends k asks e mid new (Ok NoMemory) same end is = is ∙ ap settle end.0 ∙ same
-plain_ends k asks e mid new result same end is = absurd end
+plain_ends k asks e mid new result same end is = grind (arith, nat_tests)
 
 plain_received : (k : ℕ) (bytes : List ℕ) (e new : End) (result : Result Received Closing) → e.closed ≡ None → settle e ≡ e → (reading_of bytes).fault ≡ None → but_plain (frames_in bytes) ≡ [] → ReceiveStep e k bytes result new →
     OnlyRecords k (any_asks (frames_in bytes)) result e new
@@ -110,11 +106,7 @@ number_in (Err fault) = 0
 -- it is that of the next packet
 module _ (a b : Settings) (h : History) (v : World) (s : Side) (ok : WorldOk a b h v) where
   claimed_is : (number : ℕ) (new : End) → ClaimStep (end_of v s) (Ok number) new → number ≡ length (made s h)
-  claimed_is number new step =
-      elim (certain_cases (claim_refusal (end_of v s)) (end_of v s) (Ok number) new _ step) [
-        | inl (fault, is, same) ↦ absurd (cc is)
-        | inr (allowed, (is, same)) ↦ ap number_in is ∙ (ok.ends s).packets.count ∙ length-map (made s h) frames_in
-      ]
+  claimed_is number new step = grind (arith, nat_tests, certain_cases, length-map)
 
   claimed_ping : (number : ℕ) (new : End) → ClaimStep (end_of v s) (Ok number) new → payload s number (claimed s number ∷ h) ≡ Some ping_text
   claimed_ping number new step =

@@ -1,4 +1,5 @@
 -- What agrees in a world that meets the invariant: each clause, and the laws as they are stated.
+use Rattle.std.proofs.lemmas.Bool.Decides.{nat_tests}
 use Rattle.std.proofs.Common.{◌≡◌, ℕ, List, [], ◌∷◌, Some, true, sym, subst, refl, ap, ◌∙◌, slice_get, ◌+◌, ◌<◌, ◌≤◌, ◌⊎◌, length, Option, None, is_some, Bool, false, not, arith, inl, inr, if◌then◌else◌}
 use Rattle.std.proofs.lemmas.Bool.{false≢true}
 use Rattle.std.proofs.lemmas.Option.{none-some}
@@ -46,17 +47,11 @@ is_receive (Receive k bytes) = true
 is_receive call = false
 
 hands_or : (call : Call) → Hands call ⊎ (Hands call → ⊥)
-hands_or (Receive k bytes) = inl tt
-hands_or (TakeFrame f) = inl tt
-hands_or (TakeFrames fs) = inl tt
-hands_or call = inr (λ no. no)
+hands_or call = grind (arith, nat_tests)
 
 -- of an end that closed nothing changes
 hands_same : (old new : End) (call : Call) → Hands call → StaysOnceClosed old call new → new ≡ old
-hands_same old new (Receive k bytes) hands same = same
-hands_same old new (TakeFrame f) hands same = same
-hands_same old new (TakeFrames fs) hands same = same
-hands_same old new call hands same = absurd hands
+hands_same old new call hands same = grind (arith, nat_tests)
 
 module _ (a b : Settings) (h : History) (w : World) (ok : WorldOk a b h w) where
   pub prefix : (s : Side) (n : ℕ) → PrefixAgrees h s n

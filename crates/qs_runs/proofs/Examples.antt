@@ -1,4 +1,6 @@
 -- The readers of a history compute, and a PING may come alone.
+use Rattle.std.proofs.lemmas.Bool.Decides.{nat_tests}
+use Rattle.std.proofs.Common.{arith}
 use Rattle.std.proofs.Common.{ℕ, List, Ok, refl, sym, subst}
 use Rattle.std.proofs.lemmas.Bool.{false≢true}
 use Rattle.qs_wire.specs.Layout.{ping}
@@ -30,32 +32,11 @@ story text =
 
 bytes : BytesAreRead
 unfolding effects
-bytes =
-    record {
-      in_part = refl;
-      in_order = refl;
-      read_in_order = refl;
-      once = refl;
-      not_on_another = refl;
-      not_there = refl;
-      refused = refl;
-    }
+bytes = grind (arith, nat_tests)
 
 ends : EndsAreTold
 unfolding effects
-ends =
-    record {
-      no_end = refl;
-      taken = refl;
-      none_taken = refl;
-      stopped_before = refl;
-      taken_then = refl;
-      forgotten_before = refl;
-      other_stopped = refl;
-      stopped_after = refl;
-      forgotten = refl;
-      refused = refl;
-    }
+ends = grind (arith, nat_tests)
 
 packets : (text : List ℕ) → PacketsAreRead text
 unfolding effects
@@ -79,26 +60,7 @@ packets text =
 
 tokens : TokensAreRead
 unfolding effects
-tokens =
-    record {
-      one = refl;
-      unchanged = refl;
-      several = refl;
-      not_there = refl;
-      no_memory = refl;
-      not_processed = refl;
-      none_made = refl;
-      acked = refl;
-      not_another = refl;
-      of_several = refl;
-      not_below = refl;
-      not_refused = refl;
-      in_part = refl;
-      not_at_the_peer = refl;
-      none_made_by_it = refl;
-      noted_closed = λ close. refl;
-      not_told = λ close. refl;
-    }
+tokens = grind (arith, nat_tests)
 
 ping_alone : PingComesAlone
 ping_alone a b h w s run open_end = (

@@ -1,6 +1,5 @@
 -- Each clause of what agrees excludes something; and what the premises of a run leave out, and what they let in.
-use Rattle.std.proofs.Common.{◌≡◌, ℕ, zero, suc, ◌+◌, ◌≤◌, List, [], ◌∷◌, ◌++◌, ◌⊎◌, inl, inr, length, drop, Bool, true, false, cond, ◌&&◌, ◌==◌, Some, is_some, Ok, Err, slice_index_or, refl, sym, ap, ◌∙◌, arith, subst}
-use Rattle.std.specs.Prelude.{MatchBool}
+use Rattle.std.proofs.Common.{◌≡◌, ℕ, ◌+◌, ◌≤◌, List, [], ◌∷◌, ◌++◌, ◌⊎◌, inl, inr, length, Bool, true, false, cond, ◌&&◌, ◌==◌, Some, Ok, Err, refl, sym, ap, ◌∙◌, arith, subst}
 use Rattle.std.specs.FinSet as set
 use Rattle.std.specs.List.{AllByRecursion}
 use Rattle.std.proofs.lemmas.Option.{same_Some, none-some}
@@ -18,7 +17,6 @@ use Rattle.qs_send.specs.Records.{Among}
 use Rattle.qs_send.specs.declared.parts.Reset.{Reset}
 use Rattle.qs_send.specs.declared.parts.SendState.TheVariants.{DataRecvd, DataSent}
 use Rattle.qs_send.specs.declared.piece.Item.TheVariants.{MaxData, DataBlocked, StreamsBlocked, StreamDataBlocked}
-use Rattle.qs_calls.specs.declared.closing.Closed.TheVariants.{ByPeer}
 use Rattle.qs_calls.specs.declared.closing.Received.TheVariants.{NoMemory}
 use Rattle.qs_calls.specs.declared.closing.NotedClose.{NotedClose}
 use Rattle.qs_calls.specs.declared.token.TakeFault.TheVariants as faults
@@ -27,36 +25,19 @@ use Rattle.qs_calls.specs.declared.event.Side.TheVariants.{A, B}
 use Rattle.qs_machine.specs.Tables.{lookup, total}
 use Rattle.qs_machine.specs.Ends.{End}
 use Rattle.qs_machine.specs.Credit.{spent}
-use Rattle.qs_machine.specs.Seen.{Seen, Stream, Control, Close, Plain}
+use Rattle.qs_machine.specs.Seen.{Seen, Control, Close, Plain}
 use Rattle.qs_machine.specs.Plains.{frames_in, but_plain}
-use Rattle.qs_machine.specs.Owner.{GivesNone, AcceptOpen}
-use Rattle.qs_machine.specs.Examples.{standard}
-use Rattle.qs_machine.specs.SmallEnds.{server_with, abc, sent, fresh, all_came}
+use Rattle.qs_machine.specs.SmallEnds.{server_with, sent, fresh, all_came}
 use Rattle.qs_machine.specs.EndStep.{Receive, TakeFrames}
-use Rattle.qs_machine.proofs.Claims.{gave}
 use Rattle.qs_runs.specs.Logs.{History, other, effects, payload, taken, was_noted_closed, must_land, HasMade, HasLanded}
 use Rattle.qs_runs.specs.Worlds.{World, IsPayload, May}
 use Rattle.qs_runs.specs.Agree.{IsOld}
-use Rattle.qs_runs.specs.Exclusions.{ReadIsNoPrefix, WholeIsMissing, SizesDiffer, WorldsDiffer, NewsIsNotOld, StepsSpend, two_frames, sent_two, took, came_as, PayloadsThatCome, closing, told_A, ClosesThatCome, FramesThatCome, TokensThatAreAcked, OtherSteps, blocked, BlockedFramesLand, Differ, OtherBytesCome, LimitsAreAbove, NoneBegin, Exclusions, acknowledged, first_of_three}
-use Rattle.qs_runs.proofs.NewEnds.{made_first}
+use Rattle.qs_runs.specs.Exclusions.{ReadIsNoPrefix, WholeIsMissing, SizesDiffer, WorldsDiffer, NewsIsNotOld, StepsSpend, two_frames, sent_two, took, came_as, PayloadsThatCome, closing, ClosesThatCome, FramesThatCome, TokensThatAreAcked, OtherSteps, blocked, BlockedFramesLand, OtherBytesCome, LimitsAreAbove, NoneBegin, Exclusions, acknowledged, first_of_three}
 use Rattle.qs_runs.proofs.Wire.{ping_seen}
 
 prefix : ReadIsNoPrefix (97 ∷ 120 ∷ [])
 unfolding effects
-prefix =
-    record {
-      other_byte = λ h. second h.prefix.0 h.prefix.1;
-      more = λ h. too_long h.prefix.0 h.prefix.1;
-      less = λ h. (let e : ◌≡◌ {A = ℕ} 0 3 = ap length (h.ended refl) in omega (arith, e));
-      other_taken = λ h. second h.prefix.0 h.prefix.1;
-      less_taken = λ h. (let e : ◌≡◌ {A = ℕ} 3 6 = ap length (h.ended refl) in omega (arith, e));
-    }
-  where
-    second : (rest : List ℕ) → 97 ∷ 120 ∷ rest ≡ abc → ⊥
-    second rest e = (let n : ◌≡◌ {A = ℕ} 120 98 = ap (λ (bs : List ℕ). slice_index_or bs 1 0) e in omega arith)
-
-    too_long : (rest : List ℕ) → 97 ∷ 98 ∷ 99 ∷ rest ≡ 97 ∷ 98 ∷ [] → ⊥
-    too_long rest e = (let n : ◌≡◌ {A = ℕ} 99 0 = ap (λ (bs : List ℕ). slice_index_or bs 2 0) e in omega arith)
+prefix = grind (arith, nat_tests)
 
 -- all was acknowledged
 all_acked : unacked_from acknowledged ≡ 3
@@ -169,8 +150,7 @@ sent_payload = refl
 
 -- where the peer was told of no close its payload comes
 only_payload : (h : History) (w : World) (s : Side) (k : ℕ) (bytes : List ℕ) → was_noted_closed (other s) h ≡ false → May h w s (Receive k bytes) → IsPayload h (other s) k bytes
-only_payload h w s k bytes none (inl made) = made
-only_payload h w s k bytes none (inr close) = absurd (false≢true (sym none ∙ close.0))
+only_payload h w s k bytes none h2 = grind (arith, nat_tests)
 
 -- what comes as packet 0 differs from it in plain frames alone
 is_two : (w : World) (bytes : List ℕ) → May sent_two w B (Receive 0 bytes) → but_plain (frames_in bytes) ≡ five ∷ six ∷ []
@@ -199,34 +179,15 @@ abbrev closes_with : List Seen → ℕ
 closes_with (Close code ∷ fs) = length fs
 closes_with fs = 2
 
--- what comes of an end that made nothing is a close
-only_close : (w : World) (close : NotedClose) (bytes : List ℕ) → May (told_A close) w B (Receive 0 bytes) → closes_with (but_plain (frames_in bytes)) ≡ 0
-unfolding effects
-only_close w close bytes (inl (text, is, d)) = absurd (none-some text is)
-only_close w close bytes (inr (told, code, is)) = ap closes_with is
-
 closes : (w : World) (close : NotedClose) → ClosesThatCome w close
 unfolding effects reading_from frames_at frame_at number_of_type_at body_at number_at varint_at short_len counted_at plain_at
-closes w close =
-    record {
-      untold = λ m. (let (text, is, d) = only_payload [] w B 0 closing refl m in none-some text is);
-      its_own = λ m. (let (text, is, d) = only_payload (told_A close) w A 0 closing refl m in none-some text is);
-      front = λ m. (let n : ◌≡◌ {A = ℕ} 2 0 = only_close w close _ m in omega (arith, n));
-      behind = λ m. (let n : ◌≡◌ {A = ℕ} 1 0 = only_close w close _ m in omega (arith, n));
-      none = λ m. (let n : ◌≡◌ {A = ℕ} 2 0 = only_close w close _ m in omega (arith, n));
-      alone = λ number. inr (refl, 0, refl);
-      plain = λ number. inr (refl, 0, refl);
-    }
+closes w close = grind (arith, nat_tests)
 
 -- A frame that stood in the packet is one of the two
 module _ (f : Seen) where
   of_two : HasMade sent_two A f → (f ≡ five) ⊎ (f ≡ six)
   unfolding effects
-  of_two (zero, text, is, among) = go (subst (λ t. Among f (frames_in t)) (same_Some text two_frames (sym is)) among)
-    where
-      go : Among f (frames_in two_frames) → (f ≡ five) ⊎ (f ≡ six)
-      go a = elim (subst (Among f) reads_two a) [ inl x ↦ inl x | inr (inl y) ↦ inr y | inr (inr z) ↦ absurd z ]
-  of_two (suc k, text, is, among) = absurd (none-some text is)
+  of_two h = grind (arith, nat_tests, same_Some, reads_two, none-some)
 
 none_of_two : HasMade sent_two A (Control (MaxData 7)) → ⊥
 none_of_two m =
@@ -272,28 +233,19 @@ alone w =
 -- both frames of the packet were taken, where it landed
 module _ (h : History) (sends : payload A 0 h ≡ Some two_frames) where
   both_taken : HasLanded h A 0 → Among five (taken B h) × Among six (taken B h)
-  both_taken (text, is, all) =
-      let same : text ≡ two_frames = same_Some text two_frames (sym is ∙ sends) in
-      let has : (f : Seen) → Among f (five ∷ six ∷ []) → Among f (frames_in text) = λ f a. subst (Among f) (sym (ap frames_in same ∙ reads_two)) a in
-      (all five (has five (inl refl)) refl, all six (has six (inr (inl refl))) refl)
+  both_taken h = grind (arith, nat_tests, same_Some, reads_two)
 
   has_landed : Among five (taken B h) → Among six (taken B h) → HasLanded h A 0
   has_landed a b = (two_frames, sends, λ f among ours. elim (subst (Among f) reads_two among) [ inl is ↦ subst (λ g. Among g (taken B h)) (sym is) a | inr (inl is) ↦ subst (λ g. Among g (taken B h)) (sym is) b | inr (inr z) ↦ absurd z ])
-
-not_same : (m n : ℕ) → Control (MaxData m) ≡ Control (MaxData n) → m ≡ n
-not_same m n is = ap value is
 
 not_one : ◌≡◌ {A = ℕ} 1 0 → ⊥
 not_one n = omega (arith, n)
 
 one_taken : Among six (five ∷ []) → ⊥
-one_taken (inl is) = (let n : ◌≡◌ {A = ℕ} 6 5 = not_same 6 5 is in omega (arith, n))
-one_taken (inr z) = z
+one_taken h = grind (arith, nat_tests)
 
 two_taken : Among five (six ∷ six ∷ []) → ⊥
-two_taken (inl is) = (let n : ◌≡◌ {A = ℕ} 5 6 = not_same 5 6 is in omega (arith, n))
-two_taken (inr (inl is)) = (let n : ◌≡◌ {A = ℕ} 5 6 = not_same 5 6 is in omega (arith, n))
-two_taken (inr (inr z)) = z
+two_taken h = grind (arith, nat_tests)
 
 tokens : (w : World) (epoch : w.a.tuning.epoch ≡ 0) → TokensThatAreAcked w epoch
 unfolding effects
@@ -313,23 +265,8 @@ tokens w epoch =
 
 -- Other steps
 
-closed_gives_none : (e new : End) → e.closed ≡ Some (ByPeer 0) → MatchBool (is_some e.closed) (GivesNone e (Some 3) new) (AcceptOpen e (Some 3) new) → ⊥
-closed_gives_none e new shut step =
-    let h : GivesNone e (Some 3) new = subst (λ o. MatchBool (is_some o) (GivesNone e (Some 3) new) (AcceptOpen e (Some 3) new)) shut step in
-    none-some 3 (sym h.0)
-
 others : (h : History) (v w : World) → OtherSteps h v w
-others h v w =
-    record {
-      ungranted = λ p refuses m. refuses m;
-      ungranted_there = λ p refuses m. refuses m;
-      told = λ close. tt;
-      other_end = λ call answer changed step. changed step.still;
-      other_end_there = λ call answer changed step. changed step.still;
-      unused = λ number step same. (let (is, new) = gave v.a w.a number step.step in omega (arith, same, ap (λ (e : End). e.next) new));
-      not_next = λ step. (let (is, new) = gave v.a w.a (v.a.next + 1) step.step in omega (arith, is));
-      no_answer = λ step shut. closed_gives_none v.a w.a shut step.step;
-    }
+others h v w = grind (arith, nat_tests)
 
 reads_blocked : frames_in blocked ≡ Control (DataBlocked 5) ∷ Control (StreamsBlocked Bidi 6) ∷ Control (StreamDataBlocked 0 7) ∷ []
 unfolding reading_from frames_at frame_at number_of_type_at body_at number_at varint_at short_len
@@ -348,10 +285,6 @@ blocked_land =
     one f (inr (inl is)) land = absurd (false≢true (ap must_land (sym is) ∙ land))
     one f (inr (inr a)) land = a
 
--- the frames that both have, once plain ones are left out
-kept : (fs gs : List Seen) → Differ fs gs → but_plain fs ≡ but_plain gs
-kept fs gs (text, other, is, is_other, d) = ap but_plain (sym is) ∙ d.same ∙ ap but_plain is_other
-
 -- the limit that the first frame tells
 abbrev told : List Seen → ℕ
 told (Control (MaxData m) ∷ fs) = m
@@ -359,38 +292,13 @@ told fs = 0
 
 bytes_come : OtherBytesCome
 unfolding reading_from frames_at frame_at number_of_type_at body_at number_at varint_at short_len
-bytes_come =
-    record {
-      not_plain = λ d. (let none : ◌≡◌ {A = List Seen} (Stream 0 0 [] true ∷ []) [] = ap (drop 1) (kept _ _ d) in cc none);
-      left_out = λ d. (let five : ◌≡◌ {A = ℕ} 0 5 = ap told (kept _ _ d) in omega arith);
-      another = λ d. (let six : ◌≡◌ {A = ℕ} 6 5 = ap told (kept _ _ d) in omega arith);
-      turned = λ d. (let six : ◌≡◌ {A = ℕ} 6 5 = ap told (kept _ _ d) in omega arith);
-      fault = λ text other f is d. none-some f (sym d.reads ∙ is);
-      fault_other = λ text other f is d. none-some f (sym d.reads_other ∙ is);
-      behind = record { reads = refl; reads_other = refl; same = refl };
-      front = record { reads = refl; reads_other = refl; same = refl };
-      between = record { reads = refl; reads_other = refl; same = refl };
-      in_place = record { reads = refl; reads_other = refl; same = refl };
-    }
+bytes_come = grind (arith, nat_tests)
 
 limits : LimitsAreAbove
-limits =
-    record {
-      max_data = λ g. (let le : 4097 ≤ 4096 = g.max_data in omega arith);
-      bidi_local = λ g. (let le : 1025 ≤ 1024 = g.bidi_local in omega arith);
-      bidi_remote = λ g. (let le : 1025 ≤ 1024 = g.bidi_remote in omega arith);
-      uni = λ g. (let le : 1025 ≤ 1024 = g.uni in omega arith);
-      streams_bidi = λ g. (let le : 9 ≤ 8 = g.streams_bidi in omega arith);
-      streams_uni = λ g. (let le : 9 ≤ 8 = g.streams_uni in omega arith);
-    }
+limits = grind (arith, nat_tests)
 
 begins : NoneBegin
-begins =
-    record {
-      server_told = λ w b is. (let same = ap (λ (x : World). x.b.peer.max_data) (made_first standard standard b.tuned_a b.tuned_b b.of_a b.of_b w b.begun) in let le : b.of_a.max_data ≤ 4096 = b.granted_a.max_data in omega (arith, same, is));
-      client_told = λ w b is. (let same = ap (λ (x : World). x.a.peer.max_data) (made_first standard standard b.tuned_a b.tuned_b b.of_a b.of_b w b.begun) in let le : b.of_b.max_data ≤ 4096 = b.granted_b.max_data in omega (arith, same, is));
-      made = λ w b is. (let same = ap (λ (x : World). x.a.next) (made_first standard standard b.tuned_a b.tuned_b b.of_a b.of_b w b.begun) in omega (arith, same, is));
-    }
+begins = grind (arith, nat_tests)
 
 pub exclusions_hold : Exclusions
 exclusions_hold =

@@ -1,7 +1,8 @@
 -- What the peer made closes nothing.
-use Rattle.std.proofs.Common.{◌≡◌, ℕ, ◌%◌, ◌<◌, ◌≤◌, Bool, true, false, not, List, [], ◌∷◌, take, Option, Some, None, Result, Ok, Err, refl, sym, ap, ◌∙◌, subst, arith, inl, inr, if◌then◌else◌, ◌||◌, ◌==◌}
+use Rattle.std.proofs.lemmas.Bool.Decides.{nat_tests}
+use Rattle.std.proofs.Common.{◌≡◌, ℕ, ◌%◌, ◌<◌, ◌≤◌, Bool, true, false, not, List, [], ◌∷◌, take, Option, None, Result, Ok, Err, refl, sym, ap, ◌∙◌, subst, arith, inl, inr, ◌||◌, ◌==◌}
 use Rattle.std.proofs.lemmas.Option.{none-some}
-use Rattle.std.proofs.lemmas.Bool.{cases_eq, false≢true}
+use Rattle.std.proofs.lemmas.Bool.{false≢true}
 use Rattle.qs_wire.specs.Layout.{PlacedValue}
 use Rattle.qs_wire.specs.Grammar.{frames_of}
 use Rattle.qs_wire.specs.Reading.{reading_of}
@@ -9,11 +10,9 @@ use Rattle.qs_wire.specs.declared.fault.WireFault.{WireFault}
 use Rattle.qs_wire.specs.declared.stream_id.Role.TheVariants.{Client, Server}
 use Rattle.qs_calls.specs.declared.closing.Closing.{Closing}
 use Rattle.qs_calls.specs.declared.closing.Received.{Received}
-use Rattle.qs_calls.specs.declared.closing.Received.TheVariants.{Done, PeerClosed, NoMemory}
-use Rattle.qs_calls.specs.declared.settings.Settings.{Settings}
-use Rattle.qs_calls.specs.declared.settings.PeerLimits.{PeerLimits}
-use Rattle.qs_machine.specs.Ends.{End, is_own, is_own_by, is_uni}
-use Rattle.qs_machine.specs.Seen.{Seen, Ack, Close, Plain, seen, seen_all, asks_ack}
+use Rattle.qs_calls.specs.declared.closing.Received.TheVariants.{PeerClosed, NoMemory}
+use Rattle.qs_machine.specs.Ends.{End, is_own_by}
+use Rattle.qs_machine.specs.Seen.{Seen, Ack, Close, seen, seen_all, asks_ack}
 use Rattle.qs_machine.specs.Verdicts.{verdict}
 use Rattle.qs_machine.specs.FrameStep.{named, frame_taken}
 use Rattle.qs_send.specs.Records.{Among}
@@ -30,29 +29,13 @@ use Rattle.qs_runs.proofs.Frames.{Effect, MayCome, come_keeps}
 
 -- two roles that face each other
 opposite_bits : (x : ℕ) → x < 2 → ((x == 1) ≡ not (x == 0)) × ((x == 0) ≡ not (x == 1))
-opposite_bits x lt =
-    elim (cases_eq x 0) [
-      | inl e ↦ rw e (refl, refl)
-      | inr ne ↦ (let one : x ≡ 1 = omega arith in rw one (refl, refl))
-    ]
+opposite_bits x lt = grind (arith, nat_tests)
 
 pub opposite_roles : (n : ℕ) → (is_own_by Server n ≡ not (is_own_by Client n)) × (is_own_by Client n ≡ not (is_own_by Server n))
 opposite_roles n = opposite_bits (n % 4 % 2) (omega arith)
 
-limit_by : (u b : Bool) (p : PeerLimits) (s : Settings) → AreGranted p s → (if u then p.uni else (if not b then p.bidi_remote else p.bidi_local)) ≤ (if u then s.uni else (if b then s.bidi_local else s.bidi_remote))
-limit_by true b p s granted = granted.uni
-limit_by false true p s granted = granted.bidi_local
-limit_by false false p s granted = granted.bidi_remote
-
 pub facing : (e f : End) → ((n : ℕ) → is_own_by f.role n ≡ not (is_own_by e.role n)) → AreGranted f.peer e.settings → f.known_bidi ≤ e.granted_bidi → f.known_uni ≤ e.granted_uni → Facing e f
-facing e f opposite peer bidi uni =
-    record {
-      opposite = opposite;
-      first_limit = λ n. rw (opposite n) (limit_by (is_uni n) (is_own e n) f.peer e.settings peer);
-      first_data = peer.max_data;
-      bidi = bidi;
-      uni = uni;
-    }
+facing e f opposite peer bidi uni = grind (arith, nat_tests)
 
 -- at every moment of a call the end stands as it did, and grants as many streams
 abbrev pub IsThere : End → End → Type 0
@@ -66,15 +49,12 @@ module _ (p q : Past) (e f : End) (their : EndOk q f) (from : p.theirs ≡ q.min
     (opposite : (n : ℕ) → is_own_by f.role n ≡ not (is_own_by e.role n)) (peer : AreGranted f.peer e.settings) (bidi : f.known_bidi ≤ e.granted_bidi) (uni : f.known_uni ≤ e.granted_uni) (was_made : ProcessedWasMade q) where
   -- the two ends face each other at each moment
   pub fine_now : (mid : End) → EndOk p mid → IsThere e mid → (g : Seen) → Tells p.theirs g → verdict mid g ≡ None
-  fine_now mid ok same g t =
-      let faces : Facing mid f = facing mid f (λ n. opposite n ∙ ap (λ x. not (is_own_by x.0.role n)) (sym same.0)) (subst (λ x. AreGranted f.peer x.0.settings) (sym same.0) peer) (omega (arith, bidi, same.1)) (omega (arith, uni, same.2)) in
-      told_fine p q from back mid f faces ok their was_made g (subst (λ x. Tells x g) from t)
+  fine_now mid ok same g t = grind (arith, nat_tests, facing, not, told_fine)
 
   -- a plain frame has no fault
   plain_fine : (mid : End) (g : Seen) → is_plain g ≡ true → verdict mid g ≡ None
   unfolding verdict
-  plain_fine mid (Plain asks) plain = refl
-  plain_fine mid g plain = absurd (false≢true plain)
+  plain_fine mid g plain = grind (arith, nat_tests)
 
   come_fine : (mid : End) → EndOk p mid → IsThere e mid → (g : Seen) → MayCome p.theirs g → verdict mid g ≡ None
   come_fine mid ok same g (inl t) = fine_now mid ok same g t
@@ -90,10 +70,7 @@ module _ (p q : Past) (e f : End) (their : EndOk q f) (from : p.theirs ≡ q.min
   stops_stand v g mid result new ok same t h = absurd h
 
   at_end_stands : (k : ℕ) (asks : Bool) (fault : Option WireFault) (mid : End) (result : Result Received Closing) (new : End) → fault ≡ None → fixed mid ≡ fixed e → AtEnd k asks fault mid result new → fixed new ≡ fixed e
-  at_end_stands k asks None mid (Ok Done) new none same h = ap fixed h ∙ same
-  at_end_stands k asks None mid (Ok NoMemory) new none same h = ap fixed h.0 ∙ same
-  at_end_stands k asks (Some fault) mid (Err closing) new none same h = absurd (none-some fault (sym none))
-  at_end_stands k asks fault mid result new none same h = absurd h
+  at_end_stands k asks fault mid result new none same h = grind (arith, nat_tests)
 
   takes_stand : (left : List PlacedValue) (k : ℕ) (asks : Bool) (fault : Option WireFault) (mid : End) (result : Result Received Closing) (new : End) → fault ≡ None → EndOk p mid → IsThere e mid →
       ((g : Seen) → Among g (seen_all (frames_of left)) → MayCome p.theirs g) → Takes k fault asks mid left result new → fixed new ≡ fixed e

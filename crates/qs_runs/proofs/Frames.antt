@@ -1,7 +1,8 @@
 -- Streams open, and a frame of the peer takes effect: the invariant of an end stays.
-use Rattle.std.proofs.Common.{◌≡◌, ℕ, ◌%◌, ◌≤◌, Bool, true, false, not, ◌&&◌, ◌⊎◌, length, drop, Some, is_some, refl, sym, ap, ◌∙◌, subst, arith, inl, inr, if◌then◌else◌, nat_cmp, ◌+◌, ◌*◌, ◌/◌, ◌<◌, ◌==◌, nat_le, max, List, Option, None, is_none, ◌||◌}
+use Rattle.std.proofs.lemmas.Bool.Decides.{nat_tests}
+use Rattle.std.proofs.Common.{◌≡◌, ℕ, ◌%◌, ◌≤◌, Bool, true, false, not, ◌&&◌, ◌⊎◌, length, drop, Some, is_some, refl, sym, ap, ◌∙◌, subst, arith, inl, inr, if◌then◌else◌, nat_cmp, ◌+◌, ◌/◌, ◌<◌, nat_le, max, List, Option, None, ◌||◌}
 use Rattle.std.proofs.lemmas.Option.{none-some, same_Some}
-use Rattle.std.proofs.lemmas.Bool.{true≢false, false≢true, and_cases, not-false, and_left, and_right, cases_lt}
+use Rattle.std.proofs.lemmas.Bool.{true≢false, false≢true, and_cases, and_left, and_right, cases_lt}
 use Rattle.std.specs.FinSet as set
 use Rattle.std.specs.FinMap as fmap
 use Rattle.qs_recv.specs.Lane.{RecvLane, new_lane as new_recv_lane, take_stream, take_reset, is_whole, check_stream, check_reset}
@@ -12,14 +13,13 @@ use Rattle.qs_machine.specs.Ends.{End, is_own, is_own_by, is_uni, first_send_lim
 use Rattle.qs_machine.specs.Credit.{all_sent}
 use Rattle.qs_machine.specs.Seen.{Seen, Ack, Stream, Control, Plain}
 use Rattle.qs_machine.specs.Plains.{is_plain}
-use Rattle.qs_machine.specs.Verdicts.{lane_of, or_new, verdict, item_verdict, credit_fault, state_fault_in}
+use Rattle.qs_machine.specs.Verdicts.{lane_of, verdict, item_verdict, credit_fault, state_fault_in}
 use Rattle.qs_runs.specs.Pasts.{Past, Packets, Tells, Names, IsNamed}
 use Rattle.qs_runs.specs.Invariant.{EndOk, SendOk, SendSlot, NotSent, RecvOk, RecvSlot, NotReceived, CreditOk, OpenOk, OpenTrue, is_open, FrameTaken}
 use Rattle.qs_runs.proofs.Lists.{drop-none}
 use Rattle.qs_machine.proofs.TableLaws.{lookup_open, slots_opened, total_open, open_lower, open_at, lookup_same}
 use Rattle.qs_runs.proofs.Changes.{AllGrow, Grows_refl, all_grow_refl, taken_stays, grow_trans, grows_update, recv_changed, send_kept, end_anew}
 use Rattle.qs_wire.specs.declared.stream_id.Role.{Role}
-use Rattle.qs_wire.specs.declared.stream_id.Role.TheVariants.{Client, Server}
 use Rattle.qs_wire.specs.declared.stream_id.Dir.{Dir}
 use Rattle.qs_wire.specs.declared.stream_id.Dir.TheVariants.{Bidi, Uni}
 use Rattle.qs_machine.specs.Due.{known_count}
@@ -93,24 +93,13 @@ opened_grow t n begin m l is =
 
 -- which streams are open once n is
 cases_by : {X : Type 0} (n : ℕ) (t : Tables X) (x : ℕ → X) (b : Bool) (m : ℕ) → is_open (if b then t else open_to t n x) m ≡ true → (is_open t m ≡ true) ⊎ ((b ≡ false) × (m % 4 ≡ n % 4) × (m ≤ n))
-cases_by n t x true m is = inl is
-cases_by n t x false m is =
-    elim (lookup_open t n m x) [
-      | inl same ↦ inl (sym (ap is_some same) ∙ is)
-      | inr new ↦ inr (refl, new.1, new.2)
-    ]
+cases_by n t x b m is = grind (arith, nat_tests, lookup_open)
 
 still_by : {X : Type 0} (n : ℕ) (t : Tables X) (x : ℕ → X) (b : Bool) (m : ℕ) → is_open t m ≡ true → is_open (if b then t else open_to t n x) m ≡ true
-still_by n t x true m is = is
-still_by n t x false m is =
-    elim (lookup_open t n m x) [
-      | inl same ↦ ap is_some same ∙ is
-      | inr new ↦ ap is_some new.3
-    ]
+still_by n t x b m is = grind (arith, nat_tests, lookup_open)
 
 pub opened_at : {X : Type 0} (t : Tables X) (n : ℕ) (x : ℕ → X) (b : Bool) → b ≡ false → is_open (if b then t else open_to t n x) n ≡ true
-opened_at t n x true is = absurd (true≢false is)
-opened_at t n x false is = open_at t n x
+opened_at t n x b is = grind (arith, nat_tests, true≢false, open_at)
 
 module _ (p : Past) (e : End) (n : ℕ) (ok : EndOk p e) where
   sends_opened : (b : Bool) → (m : ℕ) → SendSlot p m (first_send_limit e m) (lookup (if b then e.sends else open_to e.sends n (new_sends e n)) m)
@@ -130,8 +119,7 @@ module _ (p : Past) (e : End) (n : ℕ) (ok : EndOk p e) where
   grow_by false m l is = opened_grow e.recvs n (new_recvs e n) m l is
 
   sent_by : (b : Bool) → total (λ l. l.sent_end) (if b then e.sends else open_to e.sends n (new_sends e n)) ≡ all_sent e
-  sent_by true = refl
-  sent_by false = total_open (λ l. l.sent_end) e.sends n (new_sends e n) (λ i. refl)
+  sent_by b = grind (arith, nat_tests, total_open)
 
   -- what is left to show of opening is which streams are open then
   pub opens_ok : OpenOk p e.role e.peer.streams_bidi e.peer.streams_uni e.known_bidi e.known_uni (is_open (opens n e).sends) (is_open (opens n e).recvs) → EndOk p (opens n e)
@@ -155,11 +143,7 @@ module _ (p : Past) (e : End) (n : ℕ) (ok : EndOk p e) where
   named_lower m kind le (f, k, t, names, same, up) = (f, k, t, names, same ∙ sym kind, omega arith)
 
   bidi_then : is_own e n ≡ false → (is_uni n && not (is_own e n)) ≡ false → is_uni n ≡ false
-  bidi_then theirs b =
-      elim (and_cases _ _ b) [
-        | inl bidi ↦ bidi
-        | inr own ↦ absurd (true≢false (sym (not-false _ own) ∙ theirs))
-      ]
+  bidi_then theirs b = grind (arith, nat_tests)
 
   -- a frame of the peer opens a stream of its own
   pub named_ok : IsNamed p.theirs n → is_own e n ≡ false → EndOk p (opens n e)
@@ -210,16 +194,7 @@ module _ (p : Past) where
 
 -- the receiving half is then the one that a verdict looks at
 pub lane_opened : (e : End) (n : ℕ) (r : RecvLane) (b : Bool) → is_own e n ≡ b → lookup (if b then e else opens n e).recvs n ≡ Some r → lane_of e n ≡ r
-lane_opened e n r true own is = rw is refl
-lane_opened e n r false own is = by _ is
-  where
-    by : (b : Bool) → lookup (if b then e.recvs else open_to e.recvs n (new_recvs e n)) n ≡ Some r → or_new (lookup e.recvs n) (first_window e n) e.tuning.credit_step ≡ r
-    by true is = rw is refl
-    by false is =
-        elim (lookup_open e.recvs n n (new_recvs e n)) [
-          | inl same ↦ rw (sym same ∙ is) refl
-          | inr new ↦ rw new.0 (same_Some _ r (sym new.3 ∙ is))
-        ]
+lane_opened e n r b own is = grind (arith, nat_tests, lookup_open, same_Some)
 
 -- An end opens a stream of its own.
 
@@ -231,29 +206,16 @@ abbrev is_uni_dir : Dir → Bool
 is_uni_dir Bidi = false
 is_uni_dir Uni = true
 
--- the numbers of an end's own streams
-kinds : (r : Role) (d : Dir) (c : ℕ) → ((c * 4 + kind_by r d) % 4 ≡ kind_by r d) × ((c * 4 + kind_by r d) / 4 ≡ c) × ((kind_by r d % 2 == role_bit r) ≡ true) × (nat_le 2 (kind_by r d) ≡ is_uni_dir d)
-kinds Client Bidi c = (omega arith, omega arith, refl, refl)
-kinds Client Uni c = (omega arith, omega arith, refl, refl)
-kinds Server Bidi c = (omega arith, omega arith, refl, refl)
-kinds Server Uni c = (omega arith, omega arith, refl, refl)
-
 pub next_own : (e : End) (d : Dir) → is_own e (next_stream e d) ≡ true
-next_own e Bidi = rw ((kinds e.role Bidi (opened_count e (own_type e Bidi))).0) ((kinds e.role Bidi 0).2)
-next_own e Uni = rw ((kinds e.role Uni (opened_count e (own_type e Uni))).0) ((kinds e.role Uni 0).2)
-
-count_below : (r : Role) (d : Dir) (c uni bidi : ℕ) → c < (if is_uni_dir d then uni else bidi) → (c * 4 + kind_by r d) / 4 < (if nat_le 2 ((c * 4 + kind_by r d) % 4) then uni else bidi)
-count_below r d c uni bidi lt = rw ((kinds r d c).1, (kinds r d c).0, (kinds r d c).3) lt
+next_own e d = grind (arith, nat_tests)
 
 -- the next stream is below the peer's count
 pub next_below : (e : End) (d : Dir) → opened_count e (own_type e d) < known_count e d → next_stream e d / 4 < (if is_uni (next_stream e d) then e.known_uni else e.known_bidi)
-next_below e Bidi lt = count_below e.role Bidi (opened_count e (own_type e Bidi)) e.known_uni e.known_bidi lt
-next_below e Uni lt = count_below e.role Uni (opened_count e (own_type e Uni)) e.known_uni e.known_bidi lt
+next_below e d lt = grind (arith, nat_tests)
 
 module _ (p : Past) (e : End) (n : ℕ) (ok : EndOk p e) (own : is_own e n ≡ true) (below : n / 4 < (if is_uni n then e.known_uni else e.known_bidi)) where
   newly : {X : Type 0} (t : Tables X) (begin : ℕ → X) (b : Bool) (m : ℕ) → b ≡ false → m % 4 ≡ n % 4 → m ≤ n → is_open (if b then t else open_to t n begin) m ≡ true
-  newly t begin true m is kind le = absurd (true≢false is)
-  newly t begin false m is kind le = open_lower (open_to t n begin) m n (sym kind) le (open_at t n begin)
+  newly t begin b m is kind le = grind (arith, nat_tests, true≢false, open_lower, open_at)
 
   kind_own : (m : ℕ) → m % 4 ≡ n % 4 → is_own_by e.role m ≡ true
   kind_own m kind = rw kind own
@@ -302,23 +264,10 @@ pub record Effect (p : Past) (old new : End) (f : Seen) : Type 0 where
   pub grow : AllGrow old.recvs new.recvs
   pub taken : FrameTaken new.recvs f
 
-below_max : (n uni bidi uni' bidi' : ℕ) (b : Bool) → n / 4 < (if b then uni else bidi) → uni ≤ uni' → bidi ≤ bidi' → n / 4 < (if b then uni' else bidi')
-below_max n uni bidi uni' bidi' true h a b = omega (arith, h)
-below_max n uni bidi uni' bidi' false h a b = omega (arith, h)
-
 -- Known counts that rise leave all of it, and where each is from is given anew.
 pub open_known : {theirs : Packets} {role : Role} {a b bidi uni : ℕ} {sends recvs : ℕ → Bool} (first_bidi first_uni more_bidi more_uni : ℕ) → OpenTrue theirs role a b bidi uni sends recvs → bidi ≤ more_bidi → uni ≤ more_uni →
     (more_bidi ≤ first_bidi) ⊎ Tells theirs (Control (MaxStreams Bidi more_bidi)) → (more_uni ≤ first_uni) ⊎ Tells theirs (Control (MaxStreams Uni more_uni)) → OpenTrue theirs role first_bidi first_uni more_bidi more_uni sends recvs
-open_known first_bidi first_uni more_bidi more_uni h le_bidi le_uni told_bidi told_uni =
-    record {
-      own_send = λ n is own. below_max n _ _ more_uni more_bidi (is_uni n) (h.own_send n is own) le_uni le_bidi;
-      own_recv = h.own_recv;
-      own_both = h.own_both;
-      their_send = h.their_send;
-      their_recv = h.their_recv;
-      bidi_told = told_bidi;
-      uni_told = told_uni;
-    }
+open_known first_bidi first_uni more_bidi more_uni h le_bidi le_uni told_bidi told_uni = grind (arith, nat_tests)
 
 module _ (p : Past) where
   stream_taken : (old e : End) (n offset : ℕ) (bytes : List ℕ) (fin : Bool) (o : Option RecvLane) → lookup e.recvs n ≡ o → is_some o ≡ true → ((r : RecvLane) → o ≡ Some r → lane_of old n ≡ r) → EndOk p e → Tells p.theirs (Stream n offset bytes fin) →
@@ -352,12 +301,7 @@ module _ (p : Past) where
 
   -- a frame on what the peer sends comes to a half that is open then: an own stream has to be, another one opens
   half_open : (e : End) (n : ℕ) (b : Bool) → is_own e n ≡ b → state_fault_in e n ≡ None → is_some (lookup (if b then e else opens n e).recvs n) ≡ true
-  half_open e n true own fine = there (lookup e.recvs n) (no_fault _ 5 (rw own at fine))
-    where
-      there : (o : Option RecvLane) → is_none o ≡ false → is_some o ≡ true
-      there None is = absurd (true≢false is)
-      there (Some l) is = refl
-  half_open e n false own fine = opened_at e.recvs n (new_recvs e n) _ (and_right (is_uni n) _ own)
+  half_open e n b own fine = grind (arith, nat_tests, no_fault, true≢false, opened_at, and_right)
 
   -- a limit or a count that the peer told
   told_max : (known first m : ℕ) (f : ℕ → Seen) → (known ≤ first) ⊎ Tells p.theirs (f known) → Tells p.theirs (f m) → (max known m ≤ first) ⊎ Tells p.theirs (f (max known m))

@@ -1,5 +1,6 @@
 -- The counts of streams that an end tells are at most those that it grants, and these never fall.
-use Rattle.std.proofs.Common.{◌≡◌, ℕ, zero, suc, ◌≤◌, List, [], ◌∷◌, ◌++◌, map, ◌⊎◌, Option, Some, None, Result, Ok, Err, refl, sym, ap, subst, arith, inl, inr}
+use Rattle.std.proofs.lemmas.Bool.Decides.{nat_tests}
+use Rattle.std.proofs.Common.{◌≡◌, ℕ, zero, suc, ◌≤◌, List, [], ◌∷◌, ◌++◌, map, ◌⊎◌, Option, Some, None, Result, Ok, refl, sym, ap, subst, arith, inl, inr}
 use Rattle.std.proofs.lemmas.Option.{none-some, same_Some}
 use Rattle.qs_wire.specs.declared.stream_id.Dir.{Dir}
 use Rattle.qs_wire.specs.declared.stream_id.Dir.TheVariants.{Bidi, Uni}
@@ -37,9 +38,7 @@ told_one fs f (suc k, (gs, at, a)) = absurd (none-some gs at)
 
 -- a count that is put in a packet is the granted one
 put_count : (old e : End) (f : Seen) (d : Dir) (count : ℕ) → MayPut old e f → f ≡ Control (MaxStreams d count) → count ≤ granted_streams old d
-put_count old e f d count may is =
-    let due : MayPut old e (Control (MaxStreams d count)) = subst (MayPut old e) is may in
-    omega (arith, due.0.0.0)
+put_count old e f d count may is = grind (arith, nat_tests)
 
 filled_count : (old e mid : End) (fs : List Seen) (d : Dir) (count : ℕ) → Fills old e fs mid → Among (Control (MaxStreams d count)) fs → count ≤ granted_streams old d
 filled_count old e mid [] d count fills a = absurd a
@@ -67,8 +66,7 @@ packet_counts e new first delay room r text step d count t = make_count (make_re
 
 -- a claimed number's packet tells no control item
 claim_tells : (r : Result ℕ MakeFault) (i : Item) → Tells (packets_in (effects_of Claim r)) (Control i) → ⊥
-claim_tells (Ok number) i t = elim (subst (Among (Control i)) ping_seen (told_one _ (Control i) t)) [ inl is ↦ cc | inr none ↦ none ]
-claim_tells (Err fault) i t = tells_nothing _ _ refl t
+claim_tells r i t = grind (arith, nat_tests, ping_seen, told_one, tells_nothing)
 
 pub claim_counts : (e : End) (r : Result ℕ MakeFault) → TellCounts e (packets_in (effects_of Claim r))
 claim_counts e r d count t = absurd (claim_tells r (MaxStreams d count) t)

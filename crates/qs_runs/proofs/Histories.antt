@@ -1,4 +1,6 @@
 -- What one thing more does to the pasts of both ends, and what landed.
+use Rattle.std.proofs.lemmas.Bool.Decides.{nat_tests}
+use Rattle.std.proofs.Common.{arith}
 use Rattle.std.proofs.Common.{◌≡◌, ℕ, zero, suc, Bool, true, false, not, ◌&&◌, ◌||◌, ◌==◌, nat_lt, nat_eq, nat_le, if◌then◌else◌, List, [], ◌∷◌, ◌++◌, map, Option, Some, None, is_some, option_map, ◌⊎◌, inl, inr, Result, Ok, Err, slice_get, refl, sym, ap, ◌∙◌, subst, append-nil, append_assoc}
 use Rattle.std.specs.Prelude.{flat_map}
 use Rattle.std.specs.List.{AllByRecursion, list_any}
@@ -12,9 +14,6 @@ use Rattle.qs_wire.specs.Grammar.{Fits, frames_of}
 use Rattle.qs_wire.specs.Reading.{reading_of}
 use Rattle.qs_send.specs.Records.{Among}
 use Rattle.qs_send.specs.declared.piece.Item.TheVariants as items
-use Rattle.qs_recv.specs.declared.half.Read.{Read}
-use Rattle.qs_recv.specs.declared.half.Read.TheVariants as reads
-use Rattle.qs_calls.specs.declared.closing.Received.{Received}
 use Rattle.qs_calls.specs.declared.closing.Received.TheVariants.{Done}
 use Rattle.qs_calls.specs.declared.making.Made.{Made}
 use Rattle.qs_calls.specs.declared.making.MakeFault.{MakeFault}
@@ -23,7 +22,6 @@ use Rattle.qs_calls.specs.declared.token.Token.{Token}
 use Rattle.qs_calls.specs.declared.token.TokenFault.{TokenFault}
 use Rattle.qs_calls.specs.declared.token.TokenFault.TheVariants as tokens
 use Rattle.qs_calls.specs.declared.event.Side.{Side}
-use Rattle.qs_calls.specs.declared.event.Side.TheVariants.{A, B}
 use Rattle.qs_machine.specs.Ends.{End}
 use Rattle.qs_machine.specs.Seen.{Seen, Stream, Control, seen, seen_all}
 use Rattle.qs_machine.specs.Plains.{is_plain, frames_in}
@@ -32,11 +30,10 @@ use Rattle.qs_machine.specs.Owner.{Certain, first_refusal, refuse_if}
 use Rattle.qs_machine.specs.Alone.{is_ours, TakeBy, TakeAllBy}
 use Rattle.qs_machine.specs.Receiving.{ReceiveBy}
 use Rattle.qs_calls.specs.declared.closing.Closed.{Closed}
-use Rattle.qs_calls.specs.declared.closing.Closed.TheVariants as closings
-use Rattle.qs_machine.specs.EndStep.{Call, Answer, EndStep, Write, Stop, StopAndDiscard, ReadUpTo, Consume, Receive, TakeFrame, TakeFrames, TokenAcked, Make, MakeAck, FillIn, Claim, NoteClosed}
-use Rattle.qs_machine.proofs.Pieces.{All_at, All_append}
+use Rattle.qs_machine.specs.EndStep.{Call, Answer, EndStep, Receive, TakeFrame, TakeFrames, TokenAcked, Make}
+use Rattle.qs_machine.proofs.Pieces.{All_at}
 use Rattle.qs_machine.proofs.Plains.{differ_covers, differ_turned, close_comes}
-use Rattle.qs_runs.specs.Logs.{Happening, History, Effect, Wrote, Gave, Ended, Stopped, Sent, Came, CameAlone, Acked, NotedClosed, other, same_side, if_ok, read_effects, sent_effects, came_effects, acked_effects, effects_of, effects, wrote_in, gave_in, stops_in, ends_first, sent_in, comes_in, took_in, acks_in, is_in, made, payload, taken, closes_in, was_noted_closed, must_land, HasMade, HasLanded}
+use Rattle.qs_runs.specs.Logs.{Happening, History, Effect, Wrote, Gave, Ended, Stopped, Sent, Came, CameAlone, Acked, NotedClosed, other, same_side, acked_effects, effects_of, effects, wrote_in, gave_in, stops_in, ends_first, sent_in, comes_in, took_in, acks_in, is_in, made, payload, taken, closes_in, was_noted_closed, must_land, HasMade, HasLanded}
 use Rattle.qs_runs.specs.Worlds.{World, end_of, IsFrom, IsPayload, May}
 use Rattle.qs_runs.specs.Invariant.{HasNoFault, WorldOk}
 use Rattle.qs_runs.specs.Pasts.{Past, past_of, past, packets_in, Holds, Tells, WasConfirmed, Landed}
@@ -44,7 +41,6 @@ use Rattle.qs_runs.proofs.Past.{with_effect, with_effects}
 use Rattle.qs_runs.proofs.PeerMoves.{with_theirs}
 use Rattle.qs_runs.proofs.OwnMoves.{Hears, Sends}
 use Rattle.qs_runs.proofs.Frames.{MayCome}
-use Rattle.qs_runs.proofs.Receives.{never_done}
 use Rattle.qs_runs.proofs.Lists.{slice_get-append, Among_left}
 use Rattle.qs_runs.proofs.Wire.{text_faultless, text_fits}
 
@@ -52,8 +48,7 @@ use Rattle.qs_runs.proofs.Wire.{text_faultless, text_fits}
 
 -- what one side makes comes to the other
 pub theirs_mine : (s : Side) (h : History) → (past (other s) h).theirs ≡ (past s h).mine
-theirs_mine A h = refl
-theirs_mine B h = refl
+theirs_mine s h = grind (arith, nat_tests)
 
 -- One effect more
 
@@ -67,13 +62,7 @@ module _ (x : Effect) where
   one_more f xs = flat_map-append f xs (x ∷ []) ∙ ap (λ ys. flat_map f xs ++ ys) (append-nil (f x))
 
   any_more : (f : Effect → Bool) (xs : List Effect) → list_any f (xs ++ x ∷ []) ≡ (if f x then true else list_any f xs)
-  any_more f xs = list_any-append f xs (x ∷ []) ∙ turned (list_any f xs) (f x)
-    where
-      turned : (a b : Bool) → (a || (b || false)) ≡ (if b then true else a)
-      turned true true = refl
-      turned true false = refl
-      turned false true = refl
-      turned false false = refl
+  any_more f xs = grind (arith, nat_tests, list_any-append)
 
 ends_more : (x : Effect) (n : ℕ) (xs : List Effect) → ends_first n (xs ++ x ∷ []) ≡ (if tells_end n x && not (list_any (stops_in n) xs) then true else ends_first n xs)
 ends_more (Ended m) n [] = at_first (n == m)
@@ -157,21 +146,16 @@ past_more (z ∷ zs) xs ys = ap (λ us. past_of us ys) (sym (append_assoc xs (z 
 
 -- what holds of a side and of the other holds of each
 pub two_sides : (P : Side → Type 0) (s : Side) → P s → P (other s) → (t : Side) → P t
-two_sides P A x y B = y
-two_sides P B x y A = y
-two_sides P _ x y _ = x
+two_sides P s x y t = grind (arith, nat_tests)
 
 pub back_again : (P : Side → Type 0) (s : Side) → P s → P (other (other s))
-back_again P A h = h
-back_again P B h = h
+back_again P s h = grind (arith, nat_tests)
 
 same : (s : Side) → same_side s s ≡ true
-same A = refl
-same B = refl
+same s = grind (arith, nat_tests)
 
 not_same : (s : Side) → same_side (other s) s ≡ false
-not_same A = refl
-not_same B = refl
+not_same s = grind (arith, nat_tests)
 
 module _ (x : Happening) (h : History) where
   abbrev pub did : List Effect
@@ -186,12 +170,10 @@ module _ (x : Happening) (h : History) where
   effects_there = ap (λ b. effects (other x.end) h ++ (if b then did else [])) (not_same x.end) ∙ append-nil (effects (other x.end) h)
 
   others_other : (s : Side) → effects (other (other s)) (x ∷ h) ≡ effects s (x ∷ h)
-  others_other A = refl
-  others_other B = refl
+  others_other s = grind (arith, nat_tests)
 
   other_before : (s : Side) → past_of (effects (other s) h) (effects s h) ≡ past (other s) h
-  other_before A = refl
-  other_before B = refl
+  other_before s = grind (arith, nat_tests)
 
   pub past_here : past x.end (x ∷ h) ≡ with_effects did (past x.end h)
   past_here = (λ i. past_of (effects_here i) (effects_there i)) ∙ past_more did (effects x.end h) (effects (other x.end) h)
@@ -234,44 +216,8 @@ made_faultless o e first delay room _ text new h = tt
 pub packet_faultless : (e : End) (first delay room : ℕ) (answer : Result (Option Made) MakeFault) (text : List ℕ) (new : End) → MakeStep e first delay room answer text new → AreFaultless (flat_map sent_in (effects_of (Make first delay room) (answer, text)))
 packet_faultless e first delay room answer text new step = made_faultless (make_refusal e) e first delay room answer text new step
 
--- a call that sends no packet has sent none
-none_if_ok : {R F : Type 0} (r : Result R F) (f : R → List Effect) → ((x : R) → flat_map sent_in (f x) ≡ []) → flat_map sent_in (if_ok r f) ≡ []
-none_if_ok (Ok x) f none = none x
-none_if_ok (Err fault) f none = refl
-
-none_read : (n : ℕ) (told : Read) (bytes : List ℕ) → flat_map sent_in (read_effects n told bytes) ≡ []
-none_read n (reads.Bytes count) bytes = refl
-none_read n reads.End bytes = refl
-none_read n _ bytes = refl
-
-none_consumed : (n : ℕ) (told : Read) (bytes : List ℕ) (b : Bool) → flat_map sent_in (read_effects n told bytes ++ (if b then Ended n ∷ [] else [])) ≡ []
-none_consumed n told bytes true = flat_map-append sent_in (read_effects n told bytes) (Ended n ∷ []) ∙ ap (λ ts. ts ++ []) (none_read n told bytes)
-none_consumed n told bytes false = flat_map-append sent_in (read_effects n told bytes) [] ∙ ap (λ ts. ts ++ []) (none_read n told bytes)
-
-none_came : (k : ℕ) (bytes : List ℕ) (r : Received) → flat_map sent_in (came_effects k bytes r) ≡ []
-none_came k bytes Done = refl
-none_came k bytes r = refl
-
-none_acked : (t : Token) (r : Result (Unit {0}) TokenFault) → flat_map sent_in (acked_effects t r) ≡ []
-none_acked t (Ok done) = refl
-none_acked t (Err tokens.NoMemory) = refl
-none_acked t (Err fault) = refl
-
 pub none_sent : (call : Call) (answer : Answer call) → (Sends call → ⊥) → flat_map sent_in (effects_of call answer) ≡ []
-none_sent (Write n bytes) answer quiet = none_if_ok answer _ (λ count. refl)
-none_sent (Stop n code) answer quiet = none_if_ok answer _ (λ done. refl)
-none_sent (StopAndDiscard n code) answer quiet = none_if_ok answer _ (λ done. refl)
-none_sent (ReadUpTo n size) answer quiet = none_if_ok answer.0 _ (λ told. none_read n told answer.1)
-none_sent (Consume n most) answer quiet = none_if_ok answer.0 _ (λ told. none_consumed n told.read answer.1 told.at_end)
-none_sent (Receive k bytes) answer quiet = none_if_ok answer _ (none_came k bytes)
-none_sent (TakeFrame f) answer quiet = none_if_ok answer _ (λ told. refl)
-none_sent (TakeFrames fs) answer quiet = none_if_ok answer _ (λ told. refl)
-none_sent (TokenAcked t) answer quiet = none_acked t answer
-none_sent (Make first delay room) answer quiet = absurd (quiet tt)
-none_sent (MakeAck delay room) answer quiet = absurd (quiet tt)
-none_sent (FillIn want room) answer quiet = absurd (quiet tt)
-none_sent Claim answer quiet = absurd (quiet tt)
-none_sent call answer quiet = refl
+none_sent call answer quiet = grind (arith, nat_tests)
 
 -- What comes was made
 
@@ -289,16 +235,7 @@ back (Control (items.StreamsBlocked d m)) = streams_blocked d m
 back f = ping
 
 back_seen : (f : FrameValue) → is_ours (seen f) ≡ true → back (seen f) ≡ f
-back_seen (stream n offset fin bytes) ours = refl
-back_seen (reset_stream n code size) ours = refl
-back_seen (stop_sending n code) ours = refl
-back_seen (max_data m) ours = refl
-back_seen (max_stream_data n m) ours = refl
-back_seen (max_streams d m) ours = refl
-back_seen (data_blocked m) ours = refl
-back_seen (stream_data_blocked n m) ours = refl
-back_seen (streams_blocked d m) ours = refl
-back_seen f ours = absurd (false≢true ours)
+back_seen f ours = grind (arith, nat_tests)
 
 fits_among : (fs : List FrameValue) (f : FrameValue) → AllByRecursion Fits fs → Among (seen f) (seen_all fs) → is_ours (seen f) ≡ true → Fits f
 fits_among [] f fit a ours = absurd a
@@ -306,9 +243,7 @@ fits_among (g ∷ fs) f fit (inl is) ours = subst Fits (sym (back_seen g (ap is_
 fits_among (g ∷ fs) f fit (inr a) ours = fits_among fs f fit.1 a ours
 
 not_ours : (g : Seen) → is_plain g ≡ true → is_ours g ≡ false
-not_ours (Stream n offset bytes fin) plain = absurd (false≢true plain)
-not_ours (Control i) plain = absurd (false≢true plain)
-not_ours g plain = refl
+not_ours g plain = grind (arith, nat_tests)
 
 module _ (h : History) (s : Side) where
   -- what the peer made is told to an end, with a text
@@ -334,8 +269,7 @@ module _ (h : History) (s : Side) where
 
 -- a frame that has to land is one of streams or of flow control
 pub lands_ours : (g : Seen) → must_land g ≡ true → is_ours g ≡ true
-lands_ours (Control i) land = refl
-lands_ours g land = land
+lands_ours g land = grind (arith, nat_tests)
 
 -- What landed stays so
 
@@ -373,39 +307,8 @@ hears_in x = false
 abbrev Deaf : List Effect → Type 0
 Deaf xs = AllByRecursion (λ y. hears_in y ≡ false) xs
 
-deaf_if_ok : {R F : Type 0} (r : Result R F) (f : R → List Effect) → ((x : R) → Deaf (f x)) → Deaf (if_ok r f)
-deaf_if_ok (Ok x) f deaf = deaf x
-deaf_if_ok (Err fault) f deaf = tt
-
-deaf_read : (n : ℕ) (told : Read) (bytes : List ℕ) → Deaf (read_effects n told bytes)
-deaf_read n (reads.Bytes count) bytes = (refl, tt)
-deaf_read n reads.End bytes = (refl, tt)
-deaf_read n told bytes = tt
-
-deaf_end : (n : ℕ) (b : Bool) → Deaf (if b then Ended n ∷ [] else [])
-deaf_end n true = (refl, tt)
-deaf_end n false = tt
-
-deaf_sent : {M : Type 0} (o : Option M) (text : List ℕ) → Deaf (sent_effects o text)
-deaf_sent (Some made) text = (refl, tt)
-deaf_sent None text = tt
-
 deaf_effects : (call : Call) (answer : Answer call) → (Hears call → ⊥) → Deaf (effects_of call answer)
-deaf_effects (Write n bytes) answer deaf = deaf_if_ok answer _ (λ count. (refl, tt))
-deaf_effects (Stop n code) answer deaf = deaf_if_ok answer _ (λ done. (refl, tt))
-deaf_effects (StopAndDiscard n code) answer deaf = deaf_if_ok answer _ (λ done. (refl, tt))
-deaf_effects (ReadUpTo n size) answer deaf = deaf_if_ok answer.0 _ (λ told. deaf_read n told answer.1)
-deaf_effects (Consume n most) answer deaf = deaf_if_ok answer.0 _ (λ told. All_append _ (read_effects n told.read answer.1) (if told.at_end then Ended n ∷ [] else []) (deaf_read n told.read answer.1) (deaf_end n told.at_end))
-deaf_effects (Make first delay room) answer deaf = deaf_if_ok answer.0 _ (λ packet. deaf_sent packet answer.1)
-deaf_effects (MakeAck delay room) answer deaf = deaf_if_ok answer.0 _ (λ packet. deaf_sent packet answer.1)
-deaf_effects (FillIn want room) answer deaf = deaf_if_ok answer.0 _ (λ filled. deaf_sent filled answer.1)
-deaf_effects Claim answer deaf = deaf_if_ok answer _ (λ number. (refl, tt))
-deaf_effects (NoteClosed close) answer deaf = (refl, tt)
-deaf_effects (Receive k bytes) answer deaf = absurd (deaf tt)
-deaf_effects (TakeFrame f) answer deaf = absurd (deaf tt)
-deaf_effects (TakeFrames fs) answer deaf = absurd (deaf tt)
-deaf_effects (TokenAcked t) answer deaf = absurd (deaf tt)
-deaf_effects call answer deaf = tt
+deaf_effects call answer deaf = grind (arith, nat_tests)
 
 -- so nothing came by it, and no token was told
 none_any : (f : Effect → Bool) → ((y : Effect) → hears_in y ≡ false → f y ≡ false) → (xs : List Effect) → Deaf xs → list_any f xs ≡ false
@@ -413,12 +316,10 @@ none_any f none [] deaf = refl
 none_any f none (y ∷ xs) deaf = ap (λ b. b || list_any f xs) (none y deaf.0) ∙ none_any f none xs deaf.1
 
 none_acks : (k : ℕ) (y : Effect) → hears_in y ≡ false → acks_in k y ≡ false
-none_acks k (Acked token) deaf = absurd (true≢false deaf)
-none_acks k y deaf = refl
+none_acks k y deaf = grind (arith, nat_tests)
 
 none_comes : (k : ℕ) (y : Effect) → hears_in y ≡ false → comes_in k y ≡ false
-none_comes k (Came j bytes) deaf = absurd (true≢false deaf)
-none_comes k y deaf = refl
+none_comes k y deaf = grind (arith, nat_tests)
 
 none_took : (xs : List Effect) → Deaf xs → flat_map took_in xs ≡ []
 none_took [] deaf = refl
@@ -433,22 +334,16 @@ none_took (y ∷ xs) deaf = ap (λ fs. fs ++ flat_map took_in xs) (none y deaf.0
 
 -- an end that closed hears nothing
 refused_take : (o : Option Closed) (e new : End) (f : FrameValue) (answer : Answer (TakeFrame f)) → is_some o ≡ true → TakeBy o f e answer new → effects_of (TakeFrame f) answer ≡ []
-refused_take None e new f answer shut h = absurd (false≢true shut)
-refused_take (Some closed) e new f answer shut h = ap (effects_of (TakeFrame f)) h.0
+refused_take o e new f answer shut h = grind (arith, nat_tests)
 
 refused_all : (o : Option Closed) (e new : End) (fs : List FrameValue) (answer : Answer (TakeFrames fs)) → is_some o ≡ true → TakeAllBy o fs e answer new → effects_of (TakeFrames fs) answer ≡ []
-refused_all None e new fs answer shut h = absurd (false≢true shut)
-refused_all (Some closed) e new fs answer shut h = ap (effects_of (TakeFrames fs)) h.0
+refused_all o e new fs answer shut h = grind (arith, nat_tests)
 
 refused_payload : (o : Option Closed) (e new : End) (k : ℕ) (bytes : List ℕ) (answer : Answer (Receive k bytes)) → is_some o ≡ true → ReceiveBy o k bytes e answer new → effects_of (Receive k bytes) answer ≡ []
-refused_payload None e new k bytes answer shut h = absurd (false≢true shut)
-refused_payload (Some (closings.ByUs closing)) e new k bytes answer shut h = ap (effects_of (Receive k bytes)) h.0
-refused_payload (Some (closings.ByPeer code)) e new k bytes answer shut h = ap (effects_of (Receive k bytes)) h.0
-refused_payload (Some (closings.Noted close)) e new k bytes answer shut h = ap (effects_of (Receive k bytes)) h.0 ∙ never_done k bytes close.by close.code
+refused_payload o e new k bytes answer shut h = grind (arith, nat_tests)
 
 refused_token : (b : Bool) (r : Option TokenFault) (e new : End) (t : Token) (answer : Answer (TokenAcked t)) (Effect : Type 0) → b ≡ true → Certain (first_refusal (refuse_if b tokens.Closed) r) e answer new Effect → effects_of (TokenAcked t) answer ≡ []
-refused_token true r e new t answer Effect shut h = ap (effects_of (TokenAcked t)) h.0
-refused_token false r e new t answer Effect shut h = absurd (false≢true shut)
+refused_token b r e new t answer Effect shut h = grind (arith, nat_tests)
 
 pub closed_hears : (e new : End) (call : Call) (answer : Answer call) → is_some e.closed ≡ true → Hears call → EndStep e call answer new → effects_of call answer ≡ []
 closed_hears e new (Receive k bytes) answer shut hears step = refused_payload e.closed e new k bytes answer shut step
@@ -459,17 +354,13 @@ closed_hears e new call answer shut hears step = absurd hears
 
 -- a token that an end took is of its epoch
 token_own : (b own made : Bool) (e new : End) (t : Token) (answer : Answer (TokenAcked t)) (E : Type 0) (k : ℕ) → Certain (first_refusal (refuse_if b tokens.Closed) (refuse_if (not (own && made)) tokens.NotGiven)) e answer new E → list_any (acks_in k) (effects_of (TokenAcked t) answer) ≡ true → own ≡ true
-token_own false true made e new t answer E k h told = refl
-token_own b own made e new t answer E k h told = absurd (false≢true (sym (ap (λ r. list_any (acks_in k) (effects_of (TokenAcked t) r)) h.0) ∙ told))
+token_own b own made e new t answer E k h told = grind (arith, nat_tests)
 
 or_false_is : (b : Bool) → (b || false) ≡ true → b ≡ true
-or_false_is true h = refl
-or_false_is false h = h
+or_false_is b h = grind (arith, nat_tests)
 
 told_in : (t : Token) (k : ℕ) (r : Result (Unit {0}) TokenFault) → list_any (acks_in k) (acked_effects t r) ≡ true → is_in t k ≡ true
-told_in t k (Ok done) told = or_false_is (is_in t k) told
-told_in t k (Err tokens.NoMemory) told = or_false_is (is_in t k) told
-told_in t k (Err fault) told = absurd (false≢true told)
+told_in t k r told = grind (arith, nat_tests)
 
 -- What the frames and tokens that an end heard tell
 module _ (h : History) (w : World) (s : Side) (new : End) where

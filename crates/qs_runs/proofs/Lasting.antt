@@ -1,8 +1,8 @@
 -- What a receiving half knows it keeps, whatever happens: offsets, final size and reset.
-use Rattle.std.proofs.Common.{◌≡◌, ℕ, Option, Some, None, is_some, refl, sym, ap, ◌∙◌}
+use Rattle.std.proofs.lemmas.Bool.Decides.{nat_tests}
+use Rattle.std.proofs.Common.{arith}
 use Rattle.qs_recv.specs.Lane.{RecvLane}
 use Rattle.qs_machine.specs.Ends.{End}
-use Rattle.std.proofs.lemmas.Bool.{false≢true}
 use Rattle.qs_machine.specs.EndStep.{Call, Answer, EndStep}
 use Rattle.qs_machine.specs.Standing.{IsSound}
 use Rattle.qs_machine.specs.Repeats.{SentWasWritten}
@@ -13,11 +13,7 @@ use Rattle.qs_runs.proofs.Changes.{Grows, AllGrow}
 -- Calls
 
 grows_of : (l m : RecvLane) → LaneAfter l m → Grows l m
-grows_of l m a = record { received = a.received; final = a.size; reset = by l.reset_code refl }
-  where
-    by : (o : Option ℕ) → l.reset_code ≡ o → m.reset_code ≡ None → l.reset_code ≡ None
-    by None is none = is
-    by (Some code) is none = absurd (false≢true (sym (ap is_some none) ∙ a.reset (ap is_some is)))
+grows_of l m a = grind (arith, nat_tests)
 
 pub call_grows : (e new : End) → IsSound e → SentWasWritten e → (call : Call) (answer : Answer call) → EndStep e call answer new → AllGrow e.recvs new.recvs
 call_grows e new sound sent call answer step n l is = let (m, there, a) = lanes_call e sound sent call answer new step n l is in (m, there, grows_of l m a)

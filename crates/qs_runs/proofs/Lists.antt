@@ -1,4 +1,5 @@
 -- Lists by place, and by what is in them.
+use Rattle.std.proofs.lemmas.Bool.Decides.{nat_tests}
 use Rattle.std.proofs.Common.{◌≡◌, ℕ, zero, suc, ◌+◌, ◌-◌, ◌≤◌, List, [], ◌∷◌, ◌++◌, ◌⊎◌, length, take, drop, Some, slice_get, refl, sym, ap, ◌∙◌, arith, inl, inr, length-append, append-nil}
 use Rattle.std.proofs.lemmas.Option.{none-some, same_Some}
 use Rattle.qs_send.specs.Records.{Among}
@@ -42,8 +43,7 @@ module _ {X : Type 0} where
       ]
 
   pub drop-none : (k : ℕ) → drop {A = X} k [] ≡ []
-  drop-none zero = refl
-  drop-none (suc k) = refl
+  drop-none k = grind (arith, nat_tests)
 
   pub drop-joined : (k : ℕ) (xs ys : List X) → k ≤ length xs → drop k (xs ++ ys) ≡ drop k xs ++ ys
   drop-joined zero xs ys le = refl

@@ -1,11 +1,12 @@
 -- A packet is made, frame by frame.
+use Rattle.std.proofs.lemmas.Bool.Decides.{nat_tests}
 use Rattle.std.proofs.Common.{◌≡◌, ℕ, ◌+◌, ◌-◌, ◌<◌, ◌≤◌, Bool, true, false, List, [], ◌∷◌, ◌++◌, ◌⊎◌, length, Option, Some, None, slice_get, refl, sym, ap, ◌∙◌, subst, arith, inl, inr, append_assoc, append-nil, length-append}
 use Rattle.std.proofs.lemmas.Option.{none-some, same_Some, slice_get_within}
 use Rattle.std.proofs.lemmas.Bool.{or_cases, or_left, or_right, true≢false, cases_lt}
 use Rattle.std.specs.FinMap as fmap
 use Rattle.std.specs.FinSet as set
 use Rattle.qs_recv.specs.Lane.{RecvLane}
-use Rattle.qs_send.specs.Lane.{SendLane, sent_lane, blocked_lane, bytes_of, unacked_from}
+use Rattle.qs_send.specs.Lane.{SendLane, sent_lane, blocked_lane, bytes_of}
 use Rattle.qs_send.specs.declared.parts.Chunk.{Chunk}
 use Rattle.qs_send.specs.declared.piece.Item.{Item}
 use Rattle.qs_send.specs.declared.piece.Item.TheVariants.{MaxData, MaxStreamData, ResetStream, StopSending, DataBlocked, StreamDataBlocked}
@@ -41,9 +42,7 @@ FrameTrue p e (Plain asks) = asks ≡ true
 FrameTrue p e _ = Unit {0}
 
 true_is_made : (p : Past) (e : End) (f : Seen) → FrameTrue p e f → IsMade f
-true_is_made p e (Close c) t = absurd t
-true_is_made p e (Plain asks) t = t
-true_is_made p e f t = tt
+true_is_made p e f t = grind (arith, nat_tests)
 
 -- More was sent: what holds still does, and what is told is told before or is the frame.
 module _ (p : Past) (more : Packets) (e : End) (sent : ℕ) (f : Seen)
@@ -109,8 +108,7 @@ module _ (p : Past) (more : Packets) (e : End) (sent : ℕ) (f : Seen)
       }
 
   piece_up : (k : ℕ) (x : Piece) → PieceOf p.mine k x → PieceOf more k x
-  piece_up k (Data n c) (bytes, holds, is) = (bytes, up k _ holds, is)
-  piece_up k (Told i) holds = up k _ holds
+  piece_up k x h = grind (arith, nat_tests)
 
   pub put_ok : (next : ℕ) → EndHas p e sent → next ≡ length more → EndHas (record p { mine = more }) (record e { next = next }) sent
   put_ok next ok count =
@@ -185,21 +183,7 @@ module _ (mine theirs : Packets) (tokens : ℕ → Bool) (all : List ℕ) (n lim
   -- what was put in the packet is true of the half then: a due offset isn't below the kept bytes
   chunk_true : (bytes : List ℕ) → length bytes ≡ c.len → bytes ≡ bytes_of l c → ((q : ℕ) → c.offset ≤ q → q < c.offset + c.len → set.contains l.acked q ≡ false) →
       ChunkTrue all l.written (sent_lane l c).sent_end (sent_lane l c).fin_sent c.offset bytes c.fin
-  chunk_true bytes count told due =
-      record {
-        same = λ i b is.
-            let within : i < length bytes = slice_get_within bytes i b is in
-            let above : unacked_from l ≤ c.offset = elim (cases_lt c.offset (unacked_from l)) [
-              | inl lt ↦ absurd (true≢false (sym (before-missing l.acked c.offset lt) ∙ due c.offset (omega arith) (omega arith)))
-              | inr ge ↦ ge
-            ] in
-            let in_kept : slice_get l.kept ((c.offset - unacked_from l) + i) ≡ Some b = slice_get-drop (c.offset - unacked_from l) l.kept i b (slice_get-take c.len _ i b (subst (λ x. slice_get x i ≡ Some b) told is)) in
-            let in_all = slice_get-drop (unacked_from l) all ((c.offset - unacked_from l) + i) b (subst (λ x. slice_get x ((c.offset - unacked_from l) + i) ≡ Some b) (h.kept none) in_kept) in
-            let same : unacked_from l + ((c.offset - unacked_from l) + i) ≡ c.offset + i = omega arith in
-            subst (λ x. slice_get all x ≡ Some b) same in_all;
-        below = omega arith;
-        end = λ is. (or_right _ _ is, (let e : c.offset + length bytes ≡ c.offset + c.len = ap (λ x. c.offset + x) count in e ∙ (end is).1));
-      }
+  chunk_true bytes count told due = grind (arith, nat_tests, slice_get_within, cases_lt, true≢false, before-missing, slice_get, slice_get-drop, slice_get-take, or_right)
 
 -- the end, with the packet that is being made counted
 abbrev pub counted : End → End
@@ -291,11 +275,7 @@ module _ (p : Past) (old : End) (kept : (k : ℕ) → set.contains old.done k �
   fills_next fs e mid fills = ap (λ (x : End). x.next) (fills_leave old fs e mid fills)
 
 empty_down : (ms : Packets) (g : Seen) → Tells (ms ++ [] ∷ []) g → Tells ms g
-empty_down ms g (k, (fs, at, a)) =
-    elim (slice_get-push ms [] k fs at) [
-      | inl old ↦ (k, (fs, old, a))
-      | inr new ↦ absurd (subst (Among g) new.1 a)
-    ]
+empty_down ms g h = grind (arith, nat_tests, slice_get-push)
 
 -- Before the first frame the packet that is being made is empty, and tells nothing.
 empty_packet : (p : Past) (e : End) → EndOk p e → EndHas (with_packet p []) (counted e) 0
@@ -313,11 +293,7 @@ made_ok p e mid frames ok lawful =
 
 -- the packet of a claimed number
 ping_down : (ms : Packets) (g : Seen) → Tells (ms ++ (Plain true ∷ []) ∷ []) g → Tells ms g ⊎ (g ≡ Plain true)
-ping_down ms g (k, (fs, at, a)) =
-    elim (slice_get-push ms (Plain true ∷ []) k fs at) [
-      | inl old ↦ inl (k, (fs, old, a))
-      | inr new ↦ elim (subst (Among g) new.1 a) [ inl is ↦ inr is | inr none ↦ absurd none ]
-    ]
+ping_down ms g h = grind (arith, nat_tests, slice_get-push)
 
 -- a number is used up, and its packet is a PING
 pub claimed_ok : (p : Past) (e : End) → EndOk p e → EndOk (with_packet p (Plain true ∷ [])) (counted e)

@@ -1,5 +1,6 @@
 -- A new end meets the invariant: nothing was made, written or read.
-use Rattle.std.proofs.Common.{◌≡◌, ℕ, true, false, [], length, Option, None, Result, Ok, is_some, sym, ap, ◌∙◌, subst, arith, inl, nat_cmp}
+use Rattle.std.proofs.lemmas.Bool.Decides.{nat_tests}
+use Rattle.std.proofs.Common.{◌≡◌, ℕ, true, false, [], length, None, Result, Ok, is_some, sym, ap, ◌∙◌, subst, arith, inl, nat_cmp}
 use Rattle.std.proofs.lemmas.Option.{none-some}
 use Rattle.std.proofs.lemmas.Bool.{false≢true}
 use Rattle.std.specs.FinSet as set
@@ -12,9 +13,9 @@ use Rattle.qs_calls.specs.declared.settings.Settings.{Settings}
 use Rattle.qs_calls.specs.declared.settings.Tuning.{Tuning}
 use Rattle.qs_calls.specs.declared.settings.PeerLimits.{PeerLimits}
 use Rattle.qs_calls.specs.declared.settings.SetupFault.{SetupFault}
-use Rattle.qs_calls.specs.Settings.{limits_of, wide_setup_fault, default_tuning}
+use Rattle.qs_calls.specs.Settings.{limits_of, default_tuning}
 use Rattle.qs_machine.specs.Tables.{total, no_streams}
-use Rattle.qs_machine.specs.Ends.{End, first_send_limit, first_window, new_end, end_made, wide_end_made, end_unless}
+use Rattle.qs_machine.specs.Ends.{End, first_send_limit, first_window, new_end, end_made, wide_end_made}
 use Rattle.qs_machine.specs.Seen.{Seen}
 use Rattle.qs_machine.proofs.Counts.{new_ends_wide}
 use Rattle.qs_machine.proofs.Ties.{nowhere}
@@ -32,23 +33,10 @@ tells_nothing ms f none (k, (fs, at, a)) = none-some fs (rw none at at)
 
 module _ (role : Role) (own : Settings) (tuned : Tuning) (told : PeerLimits) (p : Past) (made : p.mine ≡ []) (wrote : (n : ℕ) → p.bytes n ≡ []) (gave : (n : ℕ) → p.gave n ≡ []) (stopped : (n : ℕ) → p.stopped n ≡ false) (ended : (n : ℕ) → p.ended n ≡ false) (processed : (k : ℕ) → p.processed k ≡ false) (taken : p.taken ≡ []) where
   new_send : (n limit : ℕ) → SendSlot p n limit None
-  new_send n limit =
-      record {
-        no_bytes = wrote n;
-        no_stream = λ offset bytes fin t. tells_nothing p.mine _ made t;
-        no_reset = λ code size t. tells_nothing p.mine _ made t;
-        no_blocked = λ limit t. tells_nothing p.mine _ made t;
-      }
+  new_send n limit = grind (arith, nat_tests)
 
   new_recv : (n window : ℕ) → RecvSlot p n window None
-  new_recv n window =
-      record {
-        no_bytes = gave n;
-        no_end = ended n;
-        not_stopped = stopped n;
-        no_limit = λ limit t. tells_nothing p.mine _ made t;
-        no_stop = λ code t. tells_nothing p.mine _ made t;
-      }
+  new_recv n window = grind (arith, nat_tests)
 
   not_open : (X : Type 0) (n : ℕ) → is_open (no_streams {X = X}) n ≡ true → ⊥
   not_open X n is = false≢true (sym (ap is_some (nowhere {X = X} n)) ∙ is)
@@ -87,18 +75,11 @@ abbrev pub first_world : (a b : Settings) (x y : Tuning) (of_a of_b : PeerLimits
 first_world a b x y of_a of_b = record { a = new_end Client a x of_b; b = new_end Server b y of_a }
 
 pub made_first : (a b : Settings) (x y : Tuning) (of_a of_b : PeerLimits) (w : World) → begun_with a b x y of_a of_b ≡ Ok w → w ≡ first_world a b x y of_a of_b
-made_first a b x y of_a of_b w is = go (wide_setup_fault a of_b) (wide_setup_fault b of_a) is
-  where
-    go : (p q : Option SetupFault) → both_made (end_unless p (new_end Client a x of_b)) (end_unless q (new_end Server b y of_a)) ≡ Ok w → w ≡ first_world a b x y of_a of_b
-    go None None e = cc
-    go _ q e = absurd (cc)
+made_first a b x y of_a of_b w is = grind (arith, nat_tests)
 
 -- each end of it was made
 two_made : (x y : Result End SetupFault) (w : World) → both_made x y ≡ Ok w → (x ≡ Ok w.a) × (y ≡ Ok w.b)
-two_made (Ok c) (Ok s) w e =
-    let same : record { a = c; b = s } ≡ w = cc in
-    (ap (λ (x : World). Ok x.a) same, ap (λ (x : World). Ok x.b) same)
-two_made _ y w e = absurd (cc)
+two_made x y w e = grind (arith, nat_tests)
 
 pub ends_made : (a b : Settings) (x y : Tuning) (of_a of_b : PeerLimits) (w : World) → begun_with a b x y of_a of_b ≡ Ok w → (wide_end_made Client a x of_b ≡ Ok w.a) × (wide_end_made Server b y of_a ≡ Ok w.b)
 ends_made a b x y of_a of_b w is = two_made (wide_end_made Client a x of_b) (wide_end_made Server b y of_a) w is

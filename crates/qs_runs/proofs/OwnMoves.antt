@@ -1,5 +1,6 @@
 -- Each call of its owner keeps the invariant of an end, and so do limits that are taken in.
-use Rattle.std.proofs.Common.{◌≡◌, ℕ, Bool, true, false, List, [], ◌∷◌, ◌++◌, length, Option, Some, None, refl, sym, subst, inl, inr, leb, if◌then◌else◌, ◌≢◌, ◌+◌, ◌*◌, not, ◌&&◌, ◌||◌, take, Result, Ok, Err, is_some, ap, ◌∙◌, ◌==◌, append-nil, MatchBool, nat_le, zero, suc, ◌-◌, arith, ◌/◌, ◌%◌, ◌≤◌, max, ◌⊎◌, option_map}
+use Rattle.std.proofs.lemmas.Bool.Decides.{nat_tests}
+use Rattle.std.proofs.Common.{◌≡◌, ℕ, Bool, true, false, List, [], ◌∷◌, ◌++◌, length, Option, Some, None, refl, sym, subst, inl, inr, leb, if◌then◌else◌, ◌≢◌, ◌+◌, ◌*◌, not, ◌&&◌, ◌||◌, take, Result, Ok, Err, is_some, ap, ◌∙◌, ◌==◌, append-nil, MatchBool, nat_le, zero, suc, ◌-◌, arith, ◌%◌, ◌≤◌, max, ◌⊎◌, option_map}
 use Rattle.std.specs.Prelude.{⊤}
 use Rattle.std.specs.FinMap as fmap
 use Rattle.qs_send.specs.Records.{Among, without_first}
@@ -13,7 +14,7 @@ use Rattle.qs_runs.proofs.Lists.{Among_push, Among_take}
 use Rattle.qs_runs.proofs.Members.{get-inserted, get-removed}
 use Rattle.qs_runs.proofs.Acking.{one_less_ok, with_records, reset_ok, reset_end}
 use Rattle.std.proofs.lemmas.Option.{none-some, slice_get-map}
-use Rattle.std.proofs.lemmas.Bool.{eq-eqb, ne_eqb, leb-false, cases_lt}
+use Rattle.std.proofs.lemmas.Bool.{eq-eqb, ne_eqb, leb-false}
 use Rattle.qs_wire.specs.declared.stream_id.Dir.{Dir}
 use Rattle.qs_wire.specs.declared.stream_id.Dir.TheVariants.{Bidi, Uni}
 use Rattle.qs_recv.specs.Assembled.{front, front_of}
@@ -33,12 +34,12 @@ use Rattle.qs_calls.specs.declared.uses.OpenFault.{OpenFault}
 use Rattle.qs_calls.specs.declared.uses.OpenFault.TheVariants as opening
 use Rattle.qs_calls.specs.declared.uses.UseFault.{UseFault}
 use Rattle.qs_calls.specs.declared.uses.UseFault.TheVariants.{NoMemory, Closed}
-use Rattle.qs_machine.specs.Tables.{lookup, update, updated, Tables, table}
+use Rattle.qs_machine.specs.Tables.{lookup, update, updated, Tables}
 use Rattle.qs_machine.specs.Credit.{settle, all_taken}
 use Rattle.qs_machine.specs.Seen.{Seen, seen_all, Control}
 use Rattle.qs_machine.specs.Due.{known_count}
 use Rattle.qs_machine.specs.Owner.{first_refusal, refuse_if, send_refusal, recv_refusal, is_read_no_more, half_refusal, no_half, opened_count, own_type, peer_type, with_wanted, OpenStep, IsBlocked, IsOpened, AcceptStep, AcceptOfStep, GivesNone, GivesBidi, GivesUni, AcceptOpen, AcceptOpenOf, WriteStep, FinishStep, ResetStep, StopStep, ReadStep, ReadBy, next_stream, accepted_by, consumed, is_end as is_told_end, Certain, StopAndDiscardStep}
-use Rattle.qs_machine.specs.Alone.{token_refusal, TokenLostStep, LosesEach}
+use Rattle.qs_machine.specs.Alone.{TokenLostStep, LosesEach}
 use Rattle.qs_calls.specs.declared.closing.Closed.{Closed as ClosedEnd}
 use Rattle.qs_calls.specs.declared.closing.NotedClose.{NotedClose}
 use Rattle.qs_machine.specs.Receiving.{noted_by}
@@ -54,9 +55,9 @@ use Rattle.qs_runs.proofs.Standing.{certain_cases, uncertain_cases}
 use Rattle.qs_runs.proofs.Wire.{text_seen, ping_seen}
 use Rattle.qs_runs.proofs.Frames.{open_known, next_own, next_below, own_opened}
 use Rattle.qs_calls.specs.declared.settings.SetFault.{SetFault}
-use Rattle.qs_machine.specs.Setting.{Setting, ConnWindow, Grant, SendBuffer, SetStep, set_refusal, with_setting, StreamWindow}
+use Rattle.qs_machine.specs.Setting.{Setting, ConnWindow, Grant, SendBuffer, SetStep, with_setting, StreamWindow}
 use Rattle.qs_machine.proofs.Rising.{window_grows}
-use Rattle.qs_send.specs.declared.piece.Item.TheVariants.{MaxData, MaxStreamData, MaxStreams}
+use Rattle.qs_send.specs.declared.piece.Item.TheVariants.{MaxData, MaxStreams}
 use Rattle.qs_calls.specs.declared.settings.PeerLimits.{PeerLimits}
 use Rattle.qs_calls.specs.declared.settings.RaiseFault.{RaiseFault}
 use Rattle.qs_machine.specs.Raising.{knows_limits, type_allowed, with_allowed, limits_raised, raise_refusal, RaiseStep}
@@ -109,12 +110,10 @@ with_read p n answer given = with_effects (read_effects n answer given) p
 -- What speaks against a call
 
 no_refusal : {F : Type 0} (a b : Option F) → first_refusal a b ≡ None → (a ≡ None) × (b ≡ None)
-no_refusal None b e = (refl, e)
-no_refusal (Some r) b e = absurd (none-some r (sym e))
+no_refusal a b e = grind (arith, nat_tests)
 
 no_half_refusal : (o : Option SendFault) → half_refusal o ≡ None → o ≡ None
-no_half_refusal None e = refl
-no_half_refusal (Some fault) e = absurd (none-some _ (sym e))
+no_half_refusal o e = grind (arith, nat_tests)
 
 -- fields of which the invariant doesn't speak
 rest_ok : (p : Past) (e : End) (ab au : ℕ) (wb wu : Option ℕ) → EndOk p e → EndOk p (record e { accepted_bidi = ab; accepted_uni = au; wanted_bidi = wb; wanted_uni = wu })
@@ -371,11 +370,7 @@ lose_each_moves p (suc n) first e new answer ok (inl (mid, (declared, lost, is),
 lose_each_moves p (suc n) first e new answer ok (inr (fault, (declared, lost, is), failed)) = lose_moves p e new ok (first + n) declared lost
 
 token_lost_moves : (p : Past) (e new : End) → EndOk p e → (t : Token) (answer : Result (Unit {0}) TokenFault) → TokenLostStep e t answer new → EndOk p new
-token_lost_moves p e new ok t answer step =
-    elim (certain_cases (token_refusal e t) e answer new _ step) [
-      | inl (fault, is, same) ↦ ended_by p e new same ok
-      | inr (allowed, lost) ↦ lose_each_moves p ((t.number + 1) - t.first) t.first e new answer ok lost
-    ]
+token_lost_moves p e new ok t answer step = grind (arith, nat_tests, certain_cases, ended_by, lose_each_moves)
 
 -- What holds of an end in a run holds of it once windows, a buffer or a grant were set anew.
 
@@ -387,11 +382,7 @@ set_ok p e (SendBuffer n size) ok = send_kept p e n ok (λ m. buffer_lane m size
 set_ok p e (StreamWindow n w) ok = window_ok p e n w ok
 
 set_moves : (p : Past) (e new : End) (x : Setting) (answer : Result (Unit {0}) SetFault) → EndOk p e → SetStep e x answer new → EndOk p new
-set_moves p e new x answer ok step =
-    elim (certain_cases (set_refusal e x) e answer new _ step) [
-      | inl (fault, is, same) ↦ ended_by p e new same ok
-      | inr (allowed, (is, same)) ↦ ended_by p _ new same (settle_ok p _ (set_ok p e x ok))
-    ]
+set_moves p e new x answer ok step = grind (arith, nat_tests, certain_cases, ended_by, settle_ok, set_ok)
 
 -- Limits of the peer that rise keep the invariant of an end.
 
@@ -399,8 +390,7 @@ set_moves p e new x answer ok step =
 
 module _ (t : Tables SendLane) (k limit n : ℕ) where
   type_at : n % 4 ≡ k % 4 → lookup (type_allowed (k % 4) limit t) n ≡ option_map (λ (l : SendLane). allow_lane l limit) (lookup t n)
-  type_at e =
-      with_same t k n _ e ∙ slice_get-map (λ (l : SendLane). allow_lane l limit) (table t (k % 4)) (n / 4) ∙ ap (option_map (λ (l : SendLane). allow_lane l limit)) (sym (lookup_in t k n e))
+  type_at e = grind (arith, nat_tests, with_same, slice_get-map, option_map, lookup_in)
 
   type_beside : (n % 4 ≡ k % 4 → ⊥) → lookup (type_allowed (k % 4) limit t) n ≡ lookup t n
   type_beside ne = with_other t k n _ ne
@@ -435,8 +425,7 @@ module _ (e : End) (n : ℕ) where
   allowed_at = allowed_by (n % 4) refl
 
 sent_allowed : (limit : ℕ) (o : Option SendLane) → value (λ l. l.sent_end) (option_map (λ (l : SendLane). allow_lane l limit) o) ≤ value (λ l. l.sent_end) o
-sent_allowed limit None = omega arith
-sent_allowed limit (Some l) = omega arith
+sent_allowed limit o = grind (arith, nat_tests)
 
 -- The invariant
 
@@ -445,26 +434,14 @@ module _ (p : Past) (e : End) (q : PeerLimits) (ok : EndOk p e) where
   knows = knows_limits q e
 
   first_rises : (u o : Bool) → (if u then e.peer.uni else (if o then e.peer.bidi_remote else e.peer.bidi_local)) ≤ (if u then max e.peer.uni q.uni else (if o then max e.peer.bidi_remote q.bidi_remote else max e.peer.bidi_local q.bidi_local))
-  first_rises false true = omega arith
-  first_rises _ o = omega arith
+  first_rises u o = grind (arith, nat_tests)
 
   -- what is known is at most the first limit, or was told
   told_raised : (known first more : ℕ) (f : ℕ → Seen) → (known ≤ first) ⊎ Tells p.theirs (f known) → (max known more ≤ max first more) ⊎ Tells p.theirs (f (max known more))
-  told_raised known first more f (inl le) = inl (omega (arith, le))
-  told_raised known first more f (inr told) =
-      elim (cases_lt known more) [
-        | inl lt ↦ inl (omega (arith, lt))
-        | inr ge ↦ (let same : known ≡ max known more = omega (arith, ge) in inr (subst (λ x. Tells p.theirs (f x)) same told))
-      ]
+  told_raised known first more f h = grind (arith, nat_tests)
 
   half_allowed : (n first more : ℕ) (l : SendLane) → first ≤ more → SendOk p n first l → SendOk p n more (allow_lane l more)
-  half_allowed n first more l rises h = send_alike h (λ is. is) (λ k ack. ack) (omega (arith, h.sent_limit)) (elim h.limit_told [
-    | inl le ↦ inl (omega (arith, le, rises))
-    | inr told ↦ elim (cases_lt l.limit more) [
-      | inl lt ↦ inl (omega (arith, lt))
-      | inr ge ↦ (let same : l.limit ≡ max l.limit more = omega (arith, ge) in inr (subst (λ x. Tells p.theirs (Control (MaxStreamData n x))) same told))
-    ]
-  ])
+  half_allowed n first more l rises h = grind (arith, nat_tests)
 
   slot_allowed : (n : ℕ) (o : Option SendLane) → SendSlot p n (first_send_limit e n) o → SendSlot p n (first_send_limit knows n) (option_map (λ (l : SendLane). allow_lane l (first_send_limit knows n)) o)
   slot_allowed n None h = h
@@ -509,19 +486,11 @@ Hears (TokenAcked t) = ⊤
 Hears call = ⊥
 
 pub heard_or : (call : Call) → Hears call ⊎ (Hears call → ⊥)
-heard_or (Receive k bytes) = inl tt
-heard_or (TakeFrame f) = inl tt
-heard_or (TakeFrames fs) = inl tt
-heard_or (TokenAcked t) = inl tt
-heard_or call = inr (λ no. no)
+heard_or call = grind (arith, nat_tests)
 
 -- an end that closed hears nothing
 pub heard_same : (old new : End) (call : Call) → Hears call → StaysOnceClosed old call new → new ≡ old
-heard_same old new (Receive k bytes) heard same = same
-heard_same old new (TakeFrame f) heard same = same
-heard_same old new (TakeFrames fs) heard same = same
-heard_same old new (TokenAcked t) heard same = same
-heard_same old new call heard same = absurd heard
+heard_same old new call heard same = grind (arith, nat_tests)
 
 -- a packet may go out
 abbrev pub Sends : Call → Type 0

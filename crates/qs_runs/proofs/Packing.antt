@@ -1,5 +1,7 @@
 -- An ACK alone and what is filled in are packets of `make_packet`, or nothing happens; and what each call of an owner leaves.
-use Rattle.std.proofs.Common.{◌≡◌, ℕ, List, [], map, length, inl, inr, Option, None, Some, Result, Ok, Err, sym, subst, refl, ap}
+use Rattle.std.proofs.lemmas.Bool.Decides.{nat_tests}
+use Rattle.std.proofs.Common.{arith}
+use Rattle.std.proofs.Common.{◌≡◌, ℕ, List, [], length, inl, inr, Option, None, Some, Result, Ok, Err, sym, subst, refl, ap}
 use Rattle.std.specs.Prelude.{flat_map}
 use Rattle.qs_calls.specs.declared.filling.Fill.{Fill}
 use Rattle.qs_calls.specs.declared.filling.Filled.{Filled}
@@ -9,7 +11,6 @@ use Rattle.qs_calls.specs.declared.making.MakeFault.TheVariants as making
 use Rattle.qs_machine.specs.Ends.{End}
 use Rattle.qs_machine.specs.Making.{MakeStep, MakeAt, MakeAckStep, make_refusal}
 use Rattle.qs_machine.specs.Filling.{FillStep, FillAt, as_made}
-use Rattle.qs_machine.specs.Plains.{frames_in}
 use Rattle.qs_machine.specs.EndStep.{Call, Answer, EndStep, Make, MakeAck, FillIn, Claim}
 use Rattle.qs_machine.proofs.Ways.{ack_packet}
 use Rattle.qs_runs.specs.Logs.{Effect, effects_of, sent_in}
@@ -18,7 +19,6 @@ use Rattle.qs_runs.specs.Invariant.{EndOk}
 use Rattle.qs_runs.proofs.Past.{with_effects}
 use Rattle.qs_runs.proofs.Wire.{ping_faultless, ping_fits}
 use Rattle.qs_runs.proofs.OwnMoves.{Hears, ended_by, packet_moves, claim_moves, own_moves}
-use Rattle.qs_runs.proofs.NewEnds.{tells_nothing}
 use Rattle.qs_runs.proofs.Granting.{TellCounts, packet_counts, claim_counts}
 use Rattle.qs_runs.proofs.Histories.{AreFaultless, packet_faultless, none_sent}
 
@@ -30,8 +30,7 @@ pub record Leaves (p : Past) (e new : End) (xs : List Effect) : Type 0 where
 
 -- where it sent none
 pub none_leaves : (p : Past) (e new : End) (xs : List Effect) → flat_map sent_in xs ≡ [] → EndOk (with_effects xs p) new → Leaves p e new xs
-none_leaves p e new xs none ok =
-    record { ok = ok; counts = λ d count t. absurd (tells_nothing _ _ (ap (map frames_in) none) t); faultless = subst AreFaultless (sym none) tt }
+none_leaves p e new xs none ok = grind (arith, nat_tests)
 
 module _ (p : Past) (e new : End) (ok : EndOk p e) where
   packet_leaves : (first delay room : ℕ) (answer : Result (Option Made) MakeFault) (text : List ℕ) → MakeStep e first delay room answer text new → Leaves p e new (effects_of (Make first delay room) (answer, text))
@@ -60,8 +59,7 @@ module _ (p : Past) (e new : End) (ok : EndOk p e) where
       by None is r h = nothing_leaves _ refl h.2
 
   claim_faultless : (r : Result ℕ MakeFault) → AreFaultless (flat_map sent_in (effects_of Claim r))
-  claim_faultless (Ok number) = ((ping_faultless, ping_fits), tt)
-  claim_faultless (Err fault) = tt
+  claim_faultless r = grind (arith, nat_tests, ping_faultless, ping_fits)
 
   -- each call in which an end hears nothing of its peer
   pub own_leaves : (call : Call) (answer : Answer call) → (Hears call → ⊥) → EndStep e call answer new → Leaves p e new (effects_of call answer)

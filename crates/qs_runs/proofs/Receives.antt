@@ -1,6 +1,7 @@
 -- What the peer made keeps the invariant of the end that it comes to, as a payload or as frames alone, and spends nothing when it comes again.
-use Rattle.std.proofs.Common.{◌≡◌, ℕ, ◌≤◌, ◌<◌, Bool, List, [], ◌∷◌, ◌++◌, ◌⊎◌, take, Option, Some, None, Result, Ok, Err, true, false, if◌then◌else◌, ◌||◌, ◌==◌, refl, sym, ap, ◌∙◌, subst, arith, inl, inr, append-nil, append_assoc, MatchBool, ◌≢◌, ◌+◌, length, unwrap_or, is_some, nat_lt, le_antisymm}
-use Rattle.std.proofs.lemmas.Bool.{cases_lt, eqb-true, ltb-false, eq-eqb, false≢true, or_cases, lt-ltb, true≢false}
+use Rattle.std.proofs.lemmas.Bool.Decides.{nat_tests}
+use Rattle.std.proofs.Common.{◌≡◌, ℕ, ◌≤◌, ◌<◌, Bool, List, [], ◌∷◌, ◌++◌, ◌⊎◌, take, Option, Some, None, Result, Ok, Err, true, false, if◌then◌else◌, ◌||◌, ◌==◌, refl, sym, ap, ◌∙◌, subst, arith, inl, inr, append-nil, append_assoc, MatchBool, ◌≢◌, ◌+◌, length, unwrap_or, is_some, le_antisymm}
+use Rattle.std.proofs.lemmas.Bool.{cases_lt, ltb-false, eq-eqb, false≢true, or_cases}
 use Rattle.std.specs.FinSet as set
 use Rattle.std.specs.List.{AllByRecursion}
 use Rattle.qs_ranges.specs.Numbers.{NumberSet, numbers, missing_from, end_of}
@@ -12,15 +13,14 @@ use Rattle.qs_wire.specs.declared.fault.WireFault.{WireFault}
 use Rattle.qs_calls.specs.declared.closing.Closing.{Closing}
 use Rattle.qs_calls.specs.declared.closing.Closed.{Closed}
 use Rattle.qs_calls.specs.declared.closing.Closer.{Closer}
-use Rattle.qs_calls.specs.declared.closing.Closer.TheVariants.{Us, Peer}
-use Rattle.qs_machine.specs.Receiving.{noted_by, noted_receive, ReceiveStep, ReceiveBy, Takes, Stops, AtEnd, RunsOut, TakesPayload}
+use Rattle.qs_machine.specs.Receiving.{noted_by, noted_receive, ReceiveStep, ReceiveBy, Takes, Stops, AtEnd, RunsOut}
 use Rattle.qs_calls.specs.declared.closing.Closed.TheVariants.{ByUs, ByPeer}
 use Rattle.qs_calls.specs.declared.closing.Closed.TheVariants as closings
 use Rattle.qs_calls.specs.declared.closing.Received.{Received}
 use Rattle.qs_calls.specs.declared.closing.Received.TheVariants.{Done, Duplicate, BelowFloor, PeerClosed, NoMemory}
-use Rattle.qs_machine.specs.Ends.{End, on_recv, closes, first_send_limit, is_own, opens, opened_by_peer}
+use Rattle.qs_machine.specs.Ends.{End, on_recv, closes, is_own, opens, opened_by_peer}
 use Rattle.qs_machine.specs.Seen.{Seen, Ack, Close, seen, seen_all, asks_ack, Stream, Control}
-use Rattle.qs_machine.specs.FrameStep.{acks, named, frame_taken, is_named, item_taken}
+use Rattle.qs_machine.specs.FrameStep.{named, frame_taken, is_named, item_taken}
 use Rattle.qs_machine.specs.Recording.{recorded, has_too_many, lowest_end, least_in}
 use Rattle.qs_machine.proofs.RunLaws.{least_above}
 use Rattle.qs_machine.proofs.EveryCall.{no_fault_there, by_open, same_either, relates, Change, changed, Comes, HearsPeer, Wanted, Opened, Stopped as WasStopped, Forgotten, WasRead, WasSet, Took as WasTaken, Acked as WasAckedBy, Put, Settled}
@@ -29,15 +29,14 @@ use Rattle.qs_machine.specs.EndStep.{Call, Answer, EndStep, Receive, TakeFrame, 
 use Rattle.qs_machine.specs.Raising.{limits_raised, raise_refusal}
 use Rattle.qs_machine.specs.Setting.{SendBuffer, StreamWindow, Grant}
 use Rattle.qs_recv.specs.declared.half.Read.{Read}
-use Rattle.qs_recv.specs.declared.half.Read.TheVariants as reads
 use Rattle.qs_runs.proofs.Past.{with_effect, with_effects}
 use Rattle.qs_calls.specs.declared.token.TokenFault.TheVariants as tokens
 use Rattle.qs_machine.specs.Plains.{frames_in}
 use Rattle.qs_runs.specs.Agree.{IsOld}
 use Rattle.qs_runs.proofs.Lists.{Among_right}
 use Rattle.qs_runs.proofs.Members.{insert-cases, insert-old, insert-new, cut-cases, cut-kept, run-cases, run-old, below-end, end-le}
-use Rattle.qs_runs.specs.Pasts.{Past, Tells, WasConfirmed}
-use Rattle.qs_runs.specs.Invariant.{EndOk, FrameTaken, SendSlot}
+use Rattle.qs_runs.specs.Pasts.{Past, Tells}
+use Rattle.qs_runs.specs.Invariant.{EndOk, FrameTaken}
 use Rattle.qs_runs.proofs.Changes.{send_alike, AllGrow, all_grow_refl, grow_trans, frame_stays, Grows, settle_ok, each_grows, raise_grows}
 use Rattle.qs_runs.proofs.Acking.{acks_ok, named_pieces_ok, WasAcked}
 use Rattle.qs_machine.proofs.Leaves.{put_leaves, frame_leaves, acks_leave, stops_leave, end_leaves}
@@ -45,8 +44,7 @@ use Rattle.qs_runs.proofs.Frames.{Effect, MayCome, come_keeps, frame_keeps, new_
 use Rattle.qs_runs.proofs.OwnMoves.{ended_by}
 use Rattle.std.proofs.lemmas.Option.{none-some, same_Some}
 use Rattle.std.specs.Bool.{⊤}
-use Rattle.qs_recv.specs.Lane.{after_answer, after_read, read_answer, stop, stop_and_discard, set_window, is_over, RecvLane, raise, highest, take_stream, take_reset, is_whole, check_stream, check_reset}
-use Rattle.qs_send.specs.Lane.{SendLane}
+use Rattle.qs_recv.specs.Lane.{after_answer, after_read, read_answer, stop, stop_and_discard, set_window, is_over, RecvLane, raise, highest, take_stream, take_reset, check_stream, check_reset}
 use Rattle.qs_send.specs.Records.{Among}
 use Rattle.qs_calls.specs.declared.token.Token.{Token}
 use Rattle.qs_calls.specs.declared.token.Taken.{Taken}
@@ -54,14 +52,14 @@ use Rattle.qs_calls.specs.declared.token.Taken.TheVariants.{Took, Unchanged, Not
 use Rattle.qs_calls.specs.declared.token.TakeFault.{TakeFault}
 use Rattle.qs_calls.specs.declared.token.TakeFault.TheVariants as faults
 use Rattle.qs_calls.specs.declared.token.TokenFault.{TokenFault}
-use Rattle.qs_machine.specs.Tables.{Tables, lookup, updated, total, open_to}
+use Rattle.qs_machine.specs.Tables.{Tables, lookup, updated, total}
 use Rattle.qs_machine.specs.Credit.{settle, spent}
 use Rattle.qs_machine.specs.Verdicts.{verdict, item_verdict, credit_fault, lane_of, state_fault_in}
 use Rattle.qs_machine.specs.Alone.{TakeFrameStep, TakeFramesStep, is_ours, MayTake, TakesOne, TakesEach, TakeBy, TakeAllBy, after_one, token_refusal, TokenAckedStep}
 use Rattle.qs_runs.proofs.Facing.{IsThere, there_taken}
 use Rattle.qs_runs.proofs.Standing.{fixed, certain_cases}
 use Rattle.qs_wire.specs.declared.stream_id.Dir.TheVariants.{Uni}
-use Rattle.qs_recv.specs.Assembled.{put, forget, discard, Assembled}
+use Rattle.qs_recv.specs.Assembled.{discard}
 use Rattle.qs_send.specs.declared.piece.Item.TheVariants.{MaxStreamData, MaxStreams, ResetStream, StopSending, StreamDataBlocked}
 use Rattle.qs_machine.proofs.TableLaws.{lookup_open, total_update, total_each}
 use Rattle.qs_runs.proofs.Taking.{or_else_none, stream_passed, fin_fits, reset_fits}
@@ -73,16 +71,11 @@ use Rattle.qs_machine.proofs.Pieces.{All_append, All_take, All_more}
 -- Recording
 
 pub or_cond : (b x : Bool) → x ≡ true → (if b then true else x) ≡ true
-or_cond true x h = refl
-or_cond false x h = h
+or_cond b x h = grind (arith, nat_tests)
 
 module _ (k : ℕ) where
   processed_or : (d : ℕ → Bool) (j : ℕ) → (if j == k then true else d j) ≡ true → (j ≡ k) ⊎ (d j ≡ true)
-  processed_or d j h = go (j == k) refl h
-    where
-      go : (b : Bool) → (j == k) ≡ b → (if b then true else d j) ≡ true → (j ≡ k) ⊎ (d j ≡ true)
-      go true e h = inl (eqb-true j k e)
-      go false e h = inr h
+  processed_or d j h = grind (arith, nat_tests)
 
   -- the numbers that are kept, and the floor, where there are too many runs or not
   abbrev kept_by : Bool → NumberSet → NumberSet
@@ -92,16 +85,13 @@ module _ (k : ℕ) where
   floor_by b s floor = if b then lowest_end s else floor
 
   still_member : (b : Bool) (s : NumberSet) (q : ℕ) → set.contains (kept_by b s) q ≡ true → set.contains s q ≡ true
-  still_member true s q h = (cut-cases s (lowest_end s) q h).0
-  still_member false s q h = h
+  still_member b s q h = grind (arith, nat_tests, cut-cases)
 
   kept_or_below : (b : Bool) (s : NumberSet) (floor q : ℕ) → set.contains s q ≡ true → (set.contains (kept_by b s) q ≡ true) ⊎ (q < floor_by b s floor)
-  kept_or_below true s floor q h = elim (cases_lt q (lowest_end s)) [ inl lt ↦ inr lt | inr ge ↦ inl (cut-kept s (lowest_end s) q h ge) ]
-  kept_or_below false s floor q h = inl h
+  kept_or_below b s floor q h = grind (arith, nat_tests, cases_lt, cut-kept)
 
   kept_above : (b : Bool) (s : NumberSet) (floor q : ℕ) → ((j : ℕ) → set.contains s j ≡ true → floor ≤ j) → set.contains (kept_by b s) q ≡ true → floor_by b s floor ≤ q
-  kept_above true s floor q all h = (cut-cases s (lowest_end s) q h).1
-  kept_above false s floor q all h = all q h
+  kept_above b s floor q all h = grind (arith, nat_tests, cut-cases)
 
   -- the floor never falls
   floor_rises : (b : Bool) (s : NumberSet) (floor : ℕ) → ((q : ℕ) → set.contains s q ≡ true → floor ≤ q) → set.contains s k ≡ true → floor ≤ floor_by b s floor
@@ -191,8 +181,7 @@ module _ (p : Past) (k : ℕ) (bytes : List ℕ) (come : (g : Seen) → Among g 
 
 -- a close that was told brings in nothing
 pub never_done : (k : ℕ) (bytes : List ℕ) (c : Closer) (code : ℕ) → effects_of (Receive k bytes) (noted_receive c code) ≡ []
-never_done k bytes Us code = refl
-never_done k bytes Peer code = refl
+never_done k bytes c code = grind (arith, nat_tests)
 
 pub receives : (p : Past) (e new : End) (k : ℕ) (bytes : List ℕ) (result : Result Received Closing) → EndOk p e → ((g : Seen) → Among g (frames_in bytes) → MayCome p.theirs g) → ReceiveStep e k bytes result new →
     EndOk (with_effects (effects_of (Receive k bytes) result) p) new
@@ -223,8 +212,7 @@ HandedIn fs old r new = TakeFramesStep old fs r new ⊎ ((f : FrameValue) × (fs
 
 -- whether it changed something or nothing, the frame took effect
 pub took_effect : (e : End) (f : FrameValue) (one : Taken) (new : End) → TakesOne e f (Ok one) new → MayTake e f × (new ≡ frame_taken (seen f) e)
-took_effect e f NotOurs new h = absurd h
-took_effect e f _ new h = (h.0, h.1)
+took_effect e f one new h = grind (arith, nat_tests)
 
 -- one by one they are several of one; what isn't an end's own changes nothing
 pub handed : (e : End) (fs : List FrameValue) (result : Result Taken TakeFault) (new : End) → e.closed ≡ None → HandedIn fs e result new →
@@ -249,18 +237,13 @@ all_came (Ok taken) = true
 all_came (Err fault) = false
 
 later_came : (one : Taken) (later : Result Taken TakeFault) → all_came (after_one one later) ≡ true → all_came later ≡ true
-later_came one (Ok taken) is = refl
-later_came one (Err fault) is = is
+later_came one later is = grind (arith, nat_tests)
 
 pub none_asked : (e new : End) (g : Seen) → is_ours g ≡ true → RunsOut e g new → new ≡ e
-none_asked e new (Stream n offset bytes fin) ours h = h.0
-none_asked e new (Control i) ours h = h.0
-none_asked e new g ours h = absurd (false≢true ours)
+none_asked e new g ours h = grind (arith, nat_tests)
 
 others_taken : (t : Tables RecvLane) (g : Seen) → is_ours g ≡ false → FrameTaken t g
-others_taken t (Stream n offset bytes fin) other = absurd (false≢true (sym other))
-others_taken t (Control i) other = absurd (false≢true (sym other))
-others_taken t g other = tt
+others_taken t g other = grind (arith, nat_tests)
 
 pub none_ours : (P : Seen → Type 0) → ((g : Seen) → is_ours g ≡ false → P g) → (fs : List FrameValue) → AllByRecursion (λ f. is_ours (seen f) ≡ false) fs → AllByRecursion P (seen_all fs)
 none_ours P others [] foreign = tt
@@ -339,26 +322,14 @@ module _ (p : Past) (old : End) (fine : (mid : End) → EndOk p mid → IsThere 
 
 -- an end is told more tokens
 token_ok : (p : Past) (t : Token) (e : End) → EndOk p e → EndOk (with_effect (Acked t) p) e
-token_ok p t e ok =
-    record { sends = λ n. slot n (lookup e.sends n) (ok.sends n); recvs = ok.recvs; packets = ok.packets; taken = ok.taken; credit = ok.credit; streams = ok.streams }
-  where
-    more : (j : ℕ) → WasConfirmed p.theirs p.tokens j → WasConfirmed p.theirs (with_effect (Acked t) p).tokens j
-    more j (inl ack) = inl ack
-    more j (inr told) = inr (or_cond (is_in t j) (p.tokens j) told)
-
-    slot : (n : ℕ) (o : Option SendLane) → SendSlot p n (first_send_limit e n) o → SendSlot (with_effect (Acked t) p) n (first_send_limit e n) o
-    slot n None h = h
-    slot n (Some l) h = send_alike h (λ is. is) more h.sent_limit h.limit_told
+token_ok p t e ok = grind (arith, nat_tests, with_effect, or_cond, send_alike)
 
 named_alone : (t : Token) (j : ℕ) → is_named ((t.first, t.number) ∷ []) j ≡ true → is_in t j ≡ true
 named_alone t j h = elim (or_cases _ _ h) [ inl both ↦ both | inr none ↦ absurd (false≢true none) ]
 
 -- the pieces of the packets that are told by their token
 token_pieces : (p : Past) (t : Token) (e : End) → EndOk (with_effect (Acked t) p) e → AllByRecursion (WasAcked (with_effect (Acked t) p)) (named e ((t.first, t.number) ∷ []))
-token_pieces p t e ok = named_pieces_ok (with_effect (Acked t) p) e ok ((t.first, t.number) ∷ []) (λ j is. inr (told j (named_alone t j is)))
-  where
-    told : (j : ℕ) → is_in t j ≡ true → (if is_in t j then true else p.tokens j) ≡ true
-    told j is = rw is refl
+token_pieces p t e ok = grind (arith, nat_tests, named_pieces_ok, with_effect, named_alone)
 
 pub token_acked_moves : (p : Past) (e new : End) (t : Token) (result : Result (Unit {0}) TokenFault) → EndOk p e → TokenAckedStep e t result new → EndOk (with_effects (effects_of (TokenAcked t) result) p) new
 unfolding frame_taken
@@ -381,19 +352,7 @@ token_acked_moves p e new t result ok step =
 
 -- a packet that was processed
 pub repeats : (p : Past) (e new : End) (k : ℕ) (text : List ℕ) (result : Result Received Closing) → EndOk p e → e.closed ≡ None → ReceiveStep e k text result new → p.processed k ≡ true → new ≡ e
-repeats p e new k text result ok not_closed step done = by_floor _ refl (subst (λ o. ReceiveBy o k text e result new) not_closed step)
-  where
-    by_kept : (b : Bool) → set.contains e.done k ≡ b → nat_lt k e.floor ≡ false → MatchBool b ((result ≡ Ok Duplicate) × (new ≡ e)) ((mid : End) × TakesPayload k text e result mid × (new ≡ settle mid)) → new ≡ e
-    by_kept true is low h = h.1
-    by_kept false is low h =
-        elim (ok.packets.kept k done) [
-          | inl kept ↦ absurd (true≢false (sym kept ∙ is))
-          | inr below ↦ absurd (true≢false (sym (lt-ltb k e.floor below) ∙ low))
-        ]
-
-    by_floor : (b : Bool) → nat_lt k e.floor ≡ b → MatchBool b ((result ≡ Ok BelowFloor) × (new ≡ e)) (MatchBool (set.contains e.done k) ((result ≡ Ok Duplicate) × (new ≡ e)) ((mid : End) × TakesPayload k text e result mid × (new ≡ settle mid))) → new ≡ e
-    by_floor true low h = h.1
-    by_floor false low h = by_kept _ refl low h
+repeats p e new k text result ok not_closed step done = grind (arith, nat_tests)
 
 -- a run of members adds nothing
 same_end : (s : NumberSet) (lo hi : ℕ) → ((q : ℕ) → lo ≤ q → q < hi → set.contains s q ≡ true) → end_of (set.union s (numbers lo hi)) ≡ end_of s
@@ -404,46 +363,18 @@ same_end s lo hi all =
 
 stream_highest : (l : RecvLane) (offset : ℕ) (bytes : List ℕ) (fin : Bool) → ((q : ℕ) → offset ≤ q → q < offset + length bytes → set.contains l.arrived.received q ≡ true) → (fin ≡ true → l.final_size ≢ None) →
     ((size : ℕ) → l.final_size ≡ Some size → fin ≡ true → offset + length bytes ≡ size) → highest (take_stream l offset bytes fin) ≡ highest l
-stream_highest l offset bytes fin all known fits = go l.final_size refl fin refl
-  where
-    received : (b : Bool) → end_of (if b then l.arrived else put l.arrived offset bytes).received ≡ end_of l.arrived.received
-    received b = same_either (λ (a : Assembled). end_of a.received) b l.arrived (put l.arrived offset bytes) (same_end l.arrived.received offset (offset + length bytes) all)
-
-    go : (x : Option ℕ) → l.final_size ≡ x → (b : Bool) → fin ≡ b →
-        unwrap_or (if b then Some (offset + length bytes) else x) (end_of (if is_some l.reset_code then l.arrived else put l.arrived offset bytes).received) ≡ unwrap_or x (end_of l.arrived.received)
-    go (Some size) is true set = fits size is set
-    go None is true set = absurd (known set is)
-    go (Some size) is false set = refl
-    go None is false set = received (is_some l.reset_code)
+stream_highest l offset bytes fin all known fits = grind (arith, nat_tests, same_either, same_end, unwrap_or)
 
 reset_highest : (l : RecvLane) (code size : ℕ) → l.final_size ≢ None → ((known : ℕ) → l.final_size ≡ Some known → size ≡ known) → highest (take_reset l code size) ≡ highest l
-reset_highest l code size known fits = by _ refl
-  where
-    go : (x : Option ℕ) → l.final_size ≡ x → size ≡ unwrap_or x (end_of l.arrived.received)
-    go (Some y) is = fits y is
-    go None is = absurd (known is)
-
-    by : (b : Bool) → (is_some l.reset_code || is_whole l) ≡ b → highest (if b then l else record l { arrived = forget l.arrived; final_size = Some size; reset_code = Some code }) ≡ highest l
-    by true e = refl
-    by false e = go l.final_size refl
+reset_highest l code size known fits = grind (arith, nat_tests)
 
 -- one half changes and keeps its highest offset
 spent_kept : (e : End) (n : ℕ) (f : RecvLane → RecvLane) (o : Option RecvLane) → lookup e.recvs n ≡ o → ((l : RecvLane) → lookup e.recvs n ≡ Some l → highest (f l) ≡ highest l) → total highest (updated e.recvs n f o) ≡ total highest e.recvs
-spent_kept e n f None is same = refl
-spent_kept e n f (Some l) is same = omega (arith, total_update highest e.recvs n l (f l) is, same l is)
+spent_kept e n f o is same = grind (arith, nat_tests, total_update)
 
 -- opening leaves a half that is there
 lane_stays : (e : End) (n : ℕ) (l : RecvLane) → lookup e.recvs n ≡ Some l → (b : Bool) → lookup (if b then e else opens n e).recvs n ≡ Some l
-lane_stays e n l is true = is
-lane_stays e n l is false = by _
-  where
-    by : (b : Bool) → lookup (if b then e.recvs else open_to e.recvs n (new_recvs e n)) n ≡ Some l
-    by true = is
-    by false =
-        elim (lookup_open e.recvs n n (new_recvs e n)) [
-          | inl same ↦ same ∙ is
-          | inr new ↦ absurd (none-some l (sym new.0 ∙ is))
-        ]
+lane_stays e n l is b = grind (arith, nat_tests, new_recvs, lookup_open, none-some)
 
 module _ (e : End) where
   stream_spends : (n offset : ℕ) (bytes : List ℕ) (fin : Bool) → IsOld e (Stream n offset bytes fin) → verdict e (Stream n offset bytes fin) ≡ None → spent (frame_taken (Stream n offset bytes fin) e) ≡ spent e
@@ -491,11 +422,7 @@ module _ (e : End) where
 
 -- What is old stays old.
 known_stays : (l m : RecvLane) → Grows l m → l.final_size ≢ None → m.final_size ≢ None
-known_stays l m g known none = go l.final_size refl
-  where
-    go : (x : Option ℕ) → l.final_size ≡ x → ⊥
-    go None is = known is
-    go (Some size) is = none-some size (sym none ∙ g.final size is)
+known_stays l m g known none = grind (arith, nat_tests)
 
 old_stays : (a b : End) → AllGrow a.recvs b.recvs → (f : Seen) → IsOld a f → IsOld b f
 old_stays a b grow (Stream n offset bytes fin) (all, known) = (
@@ -523,16 +450,12 @@ takes_spend (v ∷ left) p k asks fault e result new ok told all (inr (goes, res
 -- a payload that tells nothing new spends nothing
 pub spends_nothing : (p : Past) (e new : End) (k : ℕ) (text : List ℕ) (result : Result Received Closing) → EndOk p e → ((g : Seen) → Among g (frames_in text) → MayCome p.theirs g) → e.closed ≡ None → ReceiveStep e k text result new →
     AllByRecursion (IsOld e) (frames_in text) → spent new ≡ spent e
-spends_nothing p e new k text result ok come not_closed step all =
-    by_open (spent new ≡ spent e) k text e result new (subst (λ o. ReceiveBy o k text e result new) not_closed step) (λ low same. ap spent same) (λ again same. ap spent same) (λ high mid takes same.
-    ap spent same ∙ settle_spends mid ∙ takes_spend (reading_of text).left p k false (reading_of text).fault e result mid ok come all takes)
+spends_nothing p e new k text result ok come not_closed step all = grind (arith, nat_tests, by_open, settle_spends, takes_spend)
 
 -- Frames without their packet, one after the other
 
 one_spends : (f : FrameValue) (e new : End) (fault : TakeFault) → is_ours (seen f) ≡ true → TakesOne e f (Err fault) new → spent new ≡ spent e
-one_spends f e new faults.NoMemory ours h = ap spent (none_asked e new (seen f) ours h.1)
-one_spends f e new (faults.Closing closing) ours h = ap spent h.2
-one_spends f e new (faults.PeerClosed code) ours h = absurd h
+one_spends f e new fault ours h = grind (arith, nat_tests)
 
 each_spends : (fs : List FrameValue) (p : Past) (e : End) (result : Result Taken TakeFault) (new : End) → EndOk p e → WereTold p fs → AllByRecursion (IsOld e) (seen_all fs) → TakesEach fs e result new → spent new ≡ spent e
 each_spends [] p e result new ok told old h = ap spent h.1
@@ -562,8 +485,7 @@ highest_stop : (l : RecvLane) (code : ℕ) → highest (stop l code) ≡ highest
 highest_stop l code = same_either highest (is_some l.stop_code || is_over l) l (record l { arrived = discard l.arrived; stop_code = Some code }) refl
 
 highest_read : (a : Read) (l : RecvLane) (size : ℕ) → highest (after_answer a l size) ≡ highest l
-highest_read (reads.Bytes count) l size = refl
-highest_read a l size = refl
+highest_read a l size = grind (arith, nat_tests)
 
 edit_spends : (n : ℕ) (f : RecvLane → RecvLane) (e : End) → ((l : RecvLane) → highest (f l) ≡ highest l) → spent (on_recv n f e) ≡ spent e
 edit_spends n f e same = spent_kept e n f (lookup e.recvs n) refl (λ l is. same l)
@@ -585,12 +507,7 @@ change_spends old call c e deaf comes = refl
 
 token_spends : (e new : End) (t : Token) (result : Result (Unit {0}) TokenFault) → TokenAckedStep e t result new → spent new ≡ spent e
 unfolding frame_taken
-token_spends e new t result step =
-    elim (certain_cases (token_refusal e t) e result new _ step) [
-      | inl (fault, is, same) ↦ ap spent same
-      | inr (allowed, inl (is, same)) ↦ ap spent same ∙ settle_spends (acks (named e ((t.first, t.number) ∷ [])) e) ∙ ap spent (acks_leave (named e ((t.first, t.number) ∷ [])) e)
-      | inr (allowed, inr (is, mid, (m, h, asks), same)) ↦ ap spent same ∙ settle_spends mid ∙ ap spent h ∙ ap spent (acks_leave (take m (named e ((t.first, t.number) ∷ []))) e)
-    ]
+token_spends e new t result step = grind (arith, nat_tests, certain_cases, settle_spends, acks_leave)
 
 -- frames are handed in
 abbrev pub Hands : Call → Type 0

@@ -1,9 +1,9 @@
 -- Every run keeps the invariant of both ends.
+use Rattle.std.proofs.lemmas.Bool.Decides.{nat_tests}
 use Rattle.std.proofs.Common.{◌≡◌, ◌≤◌, ◌⊎◌, ℕ, Bool, true, List, [], ◌∷◌, inl, inr, Option, None, Some, is_some, Result, Ok, false, not, arith, sym, subst, refl, ap, ◌∙◌, slice_get}
 use Rattle.std.specs.Prelude.{flat_map}
 use Rattle.std.specs.List.{AllByRecursion, list_any}
-use Rattle.std.proofs.lemmas.Bool.{false≢true, true≢false}
-use Rattle.std.proofs.lemmas.Option.{none-some}
+use Rattle.std.proofs.lemmas.Bool.{false≢true}
 use Rattle.qs_wire.specs.Layout.{FrameValue}
 use Rattle.qs_wire.specs.declared.stream_id.Dir.{Dir}
 use Rattle.qs_send.specs.Records.{Among}
@@ -11,25 +11,21 @@ use Rattle.qs_calls.specs.declared.closing.Closed.{Closed}
 use Rattle.qs_calls.specs.declared.closing.Closed.TheVariants.{ByPeer}
 use Rattle.qs_calls.specs.declared.closing.Closing.{Closing}
 use Rattle.qs_calls.specs.declared.closing.Received.{Received}
-use Rattle.qs_calls.specs.declared.closing.NotedClose.{NotedClose}
 use Rattle.qs_calls.specs.declared.settings.Settings.{Settings}
 use Rattle.qs_calls.specs.declared.settings.Tuning.{Tuning}
 use Rattle.qs_calls.specs.declared.settings.PeerLimits.{PeerLimits}
-use Rattle.qs_calls.specs.declared.settings.RaiseFault.{RaiseFault}
-use Rattle.qs_calls.specs.declared.settings.RaiseFault.TheVariants as raising
 use Rattle.qs_calls.specs.declared.token.Taken.{Taken}
 use Rattle.qs_calls.specs.declared.token.TakeFault.{TakeFault}
 use Rattle.qs_calls.specs.declared.event.Side.{Side}
 use Rattle.qs_calls.specs.declared.event.Side.TheVariants.{A, B}
 use Rattle.qs_machine.specs.Ends.{End, new_end, wide_end_made, is_own_by}
 use Rattle.qs_machine.specs.Credit.{first_grant, granted_streams}
-use Rattle.qs_machine.specs.Owner.{first_refusal, refuse_if}
-use Rattle.qs_machine.specs.Receiving.{ReceiveStep, noted_by}
+use Rattle.qs_machine.specs.Receiving.{ReceiveStep}
 use Rattle.qs_machine.specs.Seen.{Seen, seen_all}
 use Rattle.qs_machine.specs.Plains.{frames_in}
 use Rattle.qs_machine.specs.Alone.{is_ours}
-use Rattle.qs_machine.specs.Raising.{greater_limits, raise_refusal}
-use Rattle.qs_machine.specs.EndStep.{Call, Answer, EndStep, Receive, TakeFrame, TakeFrames, TokenAcked, RaiseLimits, NoteClosed}
+use Rattle.qs_machine.specs.Raising.{greater_limits}
+use Rattle.qs_machine.specs.EndStep.{Call, Answer, EndStep, Receive, TakeFrame, TakeFrames, TokenAcked, RaiseLimits}
 use Rattle.qs_machine.specs.Standing.{IsSound}
 use Rattle.qs_machine.specs.Repeats.{SentWasWritten}
 use Rattle.qs_machine.proofs.Counts.{new_ends_sound}
@@ -38,7 +34,7 @@ use Rattle.qs_machine.proofs.CallsCounts.{sound_end, counts_call}
 use Rattle.qs_machine.proofs.EveryCall.{closed_stays}
 use Rattle.qs_machine.proofs.Plains.{close_comes}
 use Rattle.qs_machine.proofs.Pieces.{All_append}
-use Rattle.qs_runs.specs.Logs.{Happening, History, Effect, NotedClosed, other, effects, effects_of, sent_in, took_in, comes_in, acks_in, closes_in, processed, taken, was_acked, was_noted_closed, made, HasMade, HasLanded}
+use Rattle.qs_runs.specs.Logs.{Happening, History, Effect, other, effects, effects_of, sent_in, took_in, comes_in, acks_in, closes_in, processed, taken, was_acked, was_noted_closed, made, HasMade, HasLanded}
 use Rattle.qs_runs.specs.Worlds.{World, AreGranted, Begins, IsPayload, IsClose, IsFrom, May, end_of, WorldStep, Run}
 use Rattle.qs_runs.specs.Agree.{StaysOpen}
 use Rattle.qs_runs.specs.Events.{Log, happened, EventRun}
@@ -52,15 +48,14 @@ use Rattle.qs_runs.proofs.Receives.{HandedIn, closed_ok, receives, handed_came, 
 use Rattle.qs_runs.proofs.OwnMoves.{Hears, heard_or, heard_same}
 use Rattle.qs_runs.proofs.Standing.{fixed, call_stands, certain_cases}
 use Rattle.qs_runs.proofs.PeerMoves.{peer_moves}
-use Rattle.qs_runs.proofs.Facing.{facing, opposite_roles, receive_stands, fine_now}
+use Rattle.qs_runs.proofs.Facing.{facing, receive_stands, fine_now}
 use Rattle.qs_runs.proofs.Histories.{two_sides, did, effects_there, past_here, past_there, made_here, made_there, taken_here, theirs_mine, payload_seen, AreFaultless, none_sent, frames_told, payload_come, still_has_made, still_landed, still_closed, any_here, none_here, still_made, back_again, closed_hears, Heard, heard_some, came_made, came_landed, acked_landed}
 use Rattle.qs_runs.proofs.Packing.{Leaves, none_leaves, nothing_leaves, own_leaves}
 use Rattle.qs_runs.proofs.NewEnds.{each_begun, begins_true, tells_nothing, new_ok}
 use Rattle.qs_runs.proofs.Granting.{counts_told, known_within}
 
 pub roles_face : (s : Side) (n : ℕ) → is_own_by (role_of s) n ≡ not (is_own_by (role_of (other s)) n)
-roles_face A n = (opposite_roles n).1
-roles_face B n = (opposite_roles n).0
+roles_face s n = grind (arith, nat_tests)
 
 module _ (a b : Settings) (h : History) (w : World) (ok : WorldOk a b h w) where
   pub opposite : (s : Side) (n : ℕ) → is_own_by (end_of w s).role n ≡ not (is_own_by (end_of w (other s)).role n)
@@ -170,15 +165,7 @@ start a b w begins =
 
 -- limits that are granted both
 both_granted : (p q : PeerLimits) (s : Settings) → AreGranted p s → AreGranted q s → AreGranted (greater_limits p q) s
-both_granted p q s x y =
-    record {
-      max_data = omega (arith, x.max_data, y.max_data);
-      bidi_local = omega (arith, x.bidi_local, y.bidi_local);
-      bidi_remote = omega (arith, x.bidi_remote, y.bidi_remote);
-      uni = omega (arith, x.uni, y.uni);
-      streams_bidi = omega (arith, x.streams_bidi, y.streams_bidi);
-      streams_uni = omega (arith, x.streams_uni, y.streams_uni);
-    }
+both_granted p q s x y = grind (arith, nat_tests)
 
 -- What a call of a side leaves of what stands; only a close that is told closes an end, there or at its peer.
 pub record Stays (granted : PeerLimits → Type 0) (told : Bool) (e new : End) (xs : List Effect) : Type 0 where
@@ -191,31 +178,9 @@ module _ (granted : PeerLimits → Type 0) (told : Bool) (e : End) (peer : grant
   all_stays : (new : End) (xs : List Effect) → fixed new ≡ fixed e → Stays granted told e new xs
   all_stays new xs stays = record { role = ap (λ y. y.0.role) stays; settings = ap (λ y. y.0.settings) stays; peer = subst granted (sym (ap (λ y. y.0.peer) stays)) peer; closed = λ none. inl (ap (λ y. y.1) stays) }
 
-  -- limits are taken in by an open end
-  open_raise : (o : Option Closed) (r : Option RaiseFault) → first_refusal (refuse_if (is_some o) raising.Closed) r ≡ None → o ≡ None
-  open_raise None r allowed = refl
-  open_raise (Some closed) r allowed = absurd (none-some _ (sym allowed))
-
-  told_stays : (close : NotedClose) (o : Option Closed) → Stays granted told e (noted_by o close e) (NotedClosed ∷ [])
-  told_stays close o = by o
-    where
-      by : (o : Option Closed) → Stays granted told e (noted_by o close e) (NotedClosed ∷ [])
-      by (Some closed) = all_stays e (NotedClosed ∷ []) refl
-      by None = record { role = refl; settings = refl; peer = peer; closed = λ none. absurd (true≢false none) }
-
   -- a call in which an end hears nothing of its peer
   own_stays : (new : End) (call : Call) (answer : Answer call) → (Hears call → ⊥) → ((q : PeerLimits) → call ≡ RaiseLimits q → e.closed ≡ None → granted (greater_limits e.peer q)) → EndStep e call answer new → Stays granted told e new (effects_of call answer)
-  own_stays new (RaiseLimits q) answer deaf may step =
-      elim (certain_cases (raise_refusal e q) e answer new _ step) [
-        | inl (fault, is, same) ↦ all_stays new [] (ap fixed same)
-        | inr (allowed, (is, same)) ↦ subst (λ f. Stays granted told e f []) (sym same) (record { role = refl; settings = refl; peer = may q refl (open_raise e.closed _ allowed); closed = λ none. inl refl })
-      ]
-  own_stays new (NoteClosed close) answer deaf may step = subst (λ f. Stays granted told e f (NotedClosed ∷ [])) (sym step) (told_stays close e.closed)
-  own_stays new (Receive k bytes) answer deaf may step = absurd (deaf tt)
-  own_stays new (TakeFrame f) answer deaf may step = absurd (deaf tt)
-  own_stays new (TakeFrames fs) answer deaf may step = absurd (deaf tt)
-  own_stays new (TokenAcked t) answer deaf may step = absurd (deaf tt)
-  own_stays new call answer deaf may step = all_stays new (effects_of call answer) (call_stands e call (λ no. no) answer new step)
+  own_stays new call answer deaf may step = grind (arith, nat_tests, certain_cases, fixed, call_stands)
 
 -- One thing more happens
 

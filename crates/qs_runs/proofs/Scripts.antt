@@ -1,17 +1,17 @@
 -- The events of scripts as calls: what they make.
-use Rattle.std.proofs.Common.{◌≡◌, ℕ, Bool, true, false, List, [], ◌∷◌, ◌++◌, Option, None, Some, Result, Ok, Err, refl, sym, ap, ◌∙◌, if◌then◌else◌, append-nil}
+use Rattle.std.proofs.lemmas.Bool.Decides.{nat_tests}
+use Rattle.std.proofs.Common.{arith}
+use Rattle.std.proofs.Common.{◌≡◌, ℕ, Bool, true, false, List, [], ◌∷◌, ◌++◌, Option, None, Some, Result, Ok, refl, sym, ap, ◌∙◌, if◌then◌else◌, append-nil}
 use Rattle.std.specs.Prelude.{flat_map}
 use Rattle.std.proofs.lemmas.Grind.{flat_map-append}
 use Rattle.qs_calls.specs.declared.closing.Closing.{Closing}
 use Rattle.qs_calls.specs.declared.closing.Received.{Received}
-use Rattle.qs_calls.specs.declared.closing.Received.TheVariants.{Done, Duplicate, BelowFloor, PeerClosed, NoMemory}
 use Rattle.qs_calls.specs.declared.event.Side.{Side}
 use Rattle.qs_calls.specs.declared.event.Act.{Act}
 use Rattle.qs_calls.specs.declared.event.Act.TheVariants as acts
 use Rattle.qs_calls.specs.declared.answer.Answer.{Answer}
 use Rattle.qs_calls.specs.declared.answer.Answer.TheVariants as answers
-use Rattle.qs_recv.specs.declared.half.Read.TheVariants as reads
-use Rattle.qs_runs.specs.Logs.{Happening, History, Effect, other, same_side, effects, effects_of, if_ok, came_effects, sent_in, made, payload, ping_text}
+use Rattle.qs_runs.specs.Logs.{Happening, History, Effect, other, same_side, effects, effects_of, sent_in, made, ping_text}
 use Rattle.qs_calls.specs.declared.event.Event.{Event}
 use Rattle.qs_runs.specs.Events.{Log, call_of, calls, happened}
 use Rattle.qs_machine.specs.EndStep.{Receive}
@@ -28,43 +28,13 @@ sent_at t None = []
 sent_at t (Some x) = if same_side t x.end then flat_map sent_in (effects_of x.call x.answer) else []
 
 nothing : {X : Type 0} (b : Bool) (xs ys : List X) → xs ≡ [] → ys ≡ [] → (if b then xs else ys) ≡ []
-nothing true xs ys x y = x
-nothing false xs ys x y = y
-
-received_sends : (k : ℕ) (text : List ℕ) (r : Result Received Closing) → flat_map sent_in (if_ok r (came_effects k text)) ≡ []
-received_sends k text (Ok Done) = refl
-received_sends k text (Ok Duplicate) = refl
-received_sends k text (Ok BelowFloor) = refl
-received_sends k text (Ok (PeerClosed code)) = refl
-received_sends k text (Ok NoMemory) = refl
-received_sends k text (Err closing) = refl
+nothing b xs ys x y = grind (arith, nat_tests)
 
 delivery_sends : (t s : Side) (k : ℕ) (r : Result Received Closing) (o : Option (List ℕ)) → sent_at t (elim o [ None ↦ None | Some text ↦ calls (other s) (Receive k text) r ]) ≡ []
-delivery_sends t s k r None = refl
-delivery_sends t s k r (Some text) = nothing (same_side t (other s)) (flat_map sent_in (if_ok r (came_effects k text))) [] (received_sends k text r) refl
+delivery_sends t s k r o = grind (arith, nat_tests)
 
 event_sends : (h : History) (t s : Side) (act : Act) (answer : Answer) → sent_at t (call_of h s act answer) ≡ (if same_side t s then made_by act answer else [])
-event_sends h t s (acts.OpenStream dir) (answers.OpenStream r) = refl
-event_sends h t s acts.Accept (answers.Accept r) = refl
-event_sends h t s (acts.Write n bytes) (answers.Write (Ok count)) = refl
-event_sends h t s (acts.Write n bytes) (answers.Write (Err fault)) = refl
-event_sends h t s (acts.Finish n) (answers.Finish r) = refl
-event_sends h t s (acts.Reset n code) (answers.Reset r) = refl
-event_sends h t s (acts.Stop n code) (answers.Stop (Ok done)) = refl
-event_sends h t s (acts.Stop n code) (answers.Stop (Err fault)) = refl
-event_sends h t s (acts.ReadUpTo n size) (answers.ReadUpTo (Ok (reads.Bytes count)) bytes) = refl
-event_sends h t s (acts.ReadUpTo n size) (answers.ReadUpTo (Ok reads.End) bytes) = refl
-event_sends h t s (acts.ReadUpTo n size) (answers.ReadUpTo (Ok (reads.Reset code)) bytes) = refl
-event_sends h t s (acts.ReadUpTo n size) (answers.ReadUpTo (Ok reads.Wait) bytes) = refl
-event_sends h t s (acts.ReadUpTo n size) (answers.ReadUpTo (Err fault) bytes) = refl
-event_sends h t s (acts.Make room) (answers.Make (Ok (Some made)) text) = refl
-event_sends h t s (acts.Make room) (answers.Make (Ok None) text) = refl
-event_sends h t s (acts.Make room) (answers.Make (Err fault) text) = refl
-event_sends h t s (acts.Lose k) (answers.Lose r) = refl
-event_sends h t s acts.Claim (answers.Claim (Ok number)) = refl
-event_sends h t s acts.Claim (answers.Claim (Err fault)) = refl
-event_sends h t s (acts.Deliver k) (answers.Deliver r) = delivery_sends t s k r (payload s k h) ∙ sym (nothing (same_side t s) [] [] refl refl)
-event_sends h t s act answer = sym (nothing (same_side t s) [] [] refl refl)
+event_sends h t s act answer = grind (arith, nat_tests, delivery_sends, nothing)
 
 -- what an end made, after one event more
 pub made_more : (t : Side) (x : Event × Answer) (log : Log) → made t (happened (x ∷ log)) ≡ made t (happened log) ++ (if same_side t x.0.end then made_by x.0.act x.1 else [])

@@ -1,8 +1,8 @@
 -- A receiving half that takes frames.
-use Rattle.std.proofs.Common.{◌≡◌, ℕ, ◌+◌, ◌-◌, ◌<◌, ◌≤◌, Bool, true, false, ◌||◌, List, ◌⊎◌, length, Option, Some, None, is_some, refl, sym, ap, ◌∙◌, arith, inl, inr, if◌then◌else◌, nat_cmp, cond}
+use Rattle.std.proofs.Common.{◌≡◌, ℕ, ◌+◌, ◌-◌, ◌<◌, ◌≤◌, Bool, true, false, ◌||◌, List, ◌⊎◌, length, Option, Some, None, is_some, refl, sym, ap, ◌∙◌, arith, inr, if◌then◌else◌, nat_cmp, cond}
 use Rattle.std.proofs.lemmas.Option.{none-some, same_Some}
 use Rattle.std.proofs.lemmas.Bool.Decides.{nat_tests}
-use Rattle.std.proofs.lemmas.Bool.{or_parts, and_cases, eqb-true, not-false, true≢false, false≢true, false_from_ne_true}
+use Rattle.std.proofs.lemmas.Bool.{false_from_ne_true}
 use Rattle.std.specs.FinMap as fmap
 use Rattle.std.specs.FinSet as set
 use Rattle.qs_ranges.specs.Numbers.{end_of, is_within}
@@ -16,22 +16,19 @@ use Rattle.qs_machine.specs.Verdicts.{or_else, state_fault_in, credit_fault, byt
 use Rattle.qs_runs.specs.Pasts.{Past, Tells, TellsByte, TellsEnd, TellsReset}
 use Rattle.qs_runs.specs.Invariant.{RecvOk, StreamTaken, TellsUpTo}
 use Rattle.qs_runs.proofs.Members.{run-cases, run-old, run-new, get-stored}
-use Rattle.qs_runs.proofs.Changes.{Grows, Grows_refl}
+use Rattle.qs_runs.proofs.Changes.{Grows}
 use Rattle.qs_machine.proofs.EveryCall.{same_either}
 
 -- What a check that found nothing says
 
 pub or_else_none : (a b : Option ℕ) → or_else a b ≡ None → (a ≡ None) × (b ≡ None)
-or_else_none None b e = (refl, e)
-or_else_none (Some c) b e = absurd (none-some c (sym e))
+or_else_none a b e = grind (arith, nat_tests)
 
 -- of a STREAM frame, what the checks of the stream's state and of its credit said
 pub stream_passed : (e : End) (n offset : ℕ) (bytes : List ℕ) (fin : Bool)
     → or_else (state_fault_in e n) (or_else (credit_fault e (check_stream (lane_of e n) offset (length bytes) fin)) (bytes_fault e n offset bytes)) ≡ None
     → (state_fault_in e n ≡ None) × (credit_fault e (check_stream (lane_of e n) offset (length bytes) fin) ≡ None)
-stream_passed e n offset bytes fin fine =
-    let (state, later) = or_else_none (state_fault_in e n) _ fine in
-    (state, (or_else_none (credit_fault e (check_stream (lane_of e n) offset (length bytes) fin)) (bytes_fault e n offset bytes) later).0)
+stream_passed e n offset bytes fin fine = grind (arith, nat_tests)
 
 stream_sized : (e : End) (l : RecvLane) (offset n : ℕ) (fin : Bool) → credit_fault e (check_stream l offset n fin) ≡ None → breaks_final_size l offset n fin ≡ false
 stream_sized e l offset n fin fine = false_from_ne_true _ (λ is. none-some 6 (sym (rw is at fine)))
@@ -40,12 +37,7 @@ reset_sized : (e : End) (l : RecvLane) (size : ℕ) → credit_fault e (check_re
 reset_sized e l size fine = false_from_ne_true _ (λ is. none-some 6 (sym (rw is at fine)))
 
 names_known : (l : RecvLane) (offset n : ℕ) (fin : Bool) → breaks_final_size l offset n fin ≡ false → (size : ℕ) → l.final_size ≡ Some size → fin ≡ true → offset + n ≡ size
-names_known l offset n fin sized size is fin_is =
-    let parts = or_parts _ _ (rw is at sized) in
-    elim (and_cases _ _ parts.1) [
-      | inl unset ↦ absurd (true≢false (sym fin_is ∙ unset))
-      | inr eq ↦ eqb-true (offset + n) size (not-false _ eq)
-    ]
+names_known l offset n fin sized size is fin_is = grind (arith, nat_tests)
 
 -- a FIN that passes the check names the size that is known (RFC 9000, section 4.5)
 pub fin_fits : (e : End) (l : RecvLane) (offset n : ℕ) (fin : Bool) → credit_fault e (check_stream l offset n fin) ≡ None → (size : ℕ) → l.final_size ≡ Some size → fin ≡ true → offset + n ≡ size
@@ -59,20 +51,10 @@ reset_fits e l size fine known is = (let end : size + 0 ≡ known = names_known 
 module _ (p : Past) (n window : ℕ) (l : RecvLane) (h : RecvOk p n window l) where
   module _ (offset : ℕ) (bytes : List ℕ) (fin : Bool) (t : Tells p.theirs (Stream n offset bytes fin)) (fits : (size : ℕ) → l.final_size ≡ Some size → fin ≡ true → offset + length bytes ≡ size) where
     received_by : (b : Bool) (q : ℕ) → set.contains (if b then l.arrived else put l.arrived offset bytes).received q ≡ true → TellsUpTo p.theirs n q
-    received_by true q is = h.received q is
-    received_by false q is =
-        elim (run-cases l.arrived.received offset (offset + length bytes) q is) [
-          | inl old ↦ h.received q old
-          | inr new ↦ (q, omega arith, (offset, bytes, fin, t, new.0, new.1))
-        ]
+    received_by b q is = grind (arith, nat_tests, run-cases)
 
     stored_now : (b : Bool) (q c : ℕ) → fmap.get (if b then l.arrived.stored else store l.arrived.received l.arrived.stored offset bytes) q ≡ Some c → TellsByte p.theirs n q c
-    stored_now true q c is = h.stored q c is
-    stored_now false q c is =
-        elim (get-stored l.arrived.received offset bytes l.arrived.stored q c is) [
-          | inl old ↦ h.stored q c old
-          | inr new ↦ (offset, bytes, fin, t, new.0, new.1)
-        ]
+    stored_now b q c is = grind (arith, nat_tests, get-stored)
 
     stored_by : (b : Bool) (q c : ℕ) → fmap.get (if b then l.arrived else put l.arrived offset bytes).stored q ≡ Some c → TellsByte p.theirs n q c
     stored_by true q c is = h.stored q c is
@@ -83,20 +65,16 @@ module _ (p : Past) (n window : ℕ) (l : RecvLane) (h : RecvOk p n window l) wh
 
     final_by : (b : Bool) → fin ≡ b → (size : ℕ) → (if b then Some (offset + length bytes) else l.final_size) ≡ Some size →
         TellsEnd p.theirs n size ⊎ ((code : ℕ) × (l.reset_code ≡ Some code) × TellsReset p.theirs n code size)
-    final_by true e size is = inl (offset, bytes, rw e at t, same_Some _ _ is)
-    final_by false e size is = h.final size is
+    final_by b e size is = grind (arith, nat_tests)
 
     final_stays : (b : Bool) → fin ≡ b → (size : ℕ) → l.final_size ≡ Some size → (if b then Some (offset + length bytes) else l.final_size) ≡ Some size
-    final_stays true e size is = ap Some (fits size is e)
-    final_stays false e size is = is
+    final_stays b e size is = grind (arith, nat_tests)
 
     old_by : (b : Bool) (q : ℕ) → set.contains l.arrived.received q ≡ true → set.contains (if b then l.arrived else put l.arrived offset bytes).received q ≡ true
-    old_by true q is = is
-    old_by false q is = run-old l.arrived.received offset (offset + length bytes) q is
+    old_by b q is = grind (arith, nat_tests, run-old)
 
     new_by : (o : Option ℕ) → o ≡ None → (q : ℕ) → offset ≤ q → q < offset + length bytes → set.contains (if is_some o then l.arrived else put l.arrived offset bytes).received q ≡ true
-    new_by None e q low high = run-new l.arrived.received offset (offset + length bytes) q low high
-    new_by (Some c) e q low high = absurd (none-some c (sym e))
+    new_by o e q low high = grind (arith, nat_tests, run-new, none-some)
 
     pub take_stream_ok : RecvOk p n window (take_stream l offset bytes fin)
     take_stream_ok =
@@ -126,10 +104,7 @@ module _ (p : Past) (n window : ℕ) (l : RecvLane) (h : RecvOk p n window l) wh
 
     -- an offset below the largest that came
     told_below : (q : ℕ) → is_within 0 (end_of l.arrived.received) q ≡ true → TellsUpTo p.theirs n q
-    told_below q is = elim (end_of-last l.arrived.received) [
-      | inl none ↦ absurd ((let lt : q < end_of l.arrived.received = grind (arith, nat_tests) in omega (arith, lt, none)))
-      | inr last ↦ (let (m, le, told) = h.received (end_of l.arrived.received - 1) last in (m, (let lt : q < end_of l.arrived.received = grind (arith, nat_tests) in omega (arith, lt, le)), told))
-    ]
+    told_below q is = grind (arith, nat_tests, end_of-last)
 
     pub take_reset_ok : (b : Bool) → RecvOk p n window (if b then l else when_reset)
     take_reset_ok true = h
@@ -148,18 +123,7 @@ module _ (p : Past) (n window : ℕ) (l : RecvLane) (h : RecvOk p n window l) wh
         }
 
     pub take_reset_grows : (b : Bool) → Grows l (if b then l else when_reset)
-    take_reset_grows true = Grows_refl l
-    take_reset_grows false = record { received = λ q is. below_is (end_of l.arrived.received) q (below-end_of l.arrived.received q is); final = λ s is. ap Some (fits s is); reset = λ none. absurd (none-some code (sym none)) }
-
-    -- a reset that changes nothing comes where the size is known
-    size_known : (is_some l.reset_code || is_whole l) ≡ true → (known : ℕ) × (l.final_size ≡ Some known)
-    size_known e = go l.final_size refl l.reset_code refl
-      where
-        go : (f : Option ℕ) → l.final_size ≡ f → (r : Option ℕ) → l.reset_code ≡ r → (known : ℕ) × (l.final_size ≡ Some known)
-        go (Some known) ef r er = (known, ef)
-        go None ef (Some c) er = ((h.reset c er).0, (h.reset c er).1)
-        go None ef None er = absurd (false≢true (rw (er, ef) at e))
+    take_reset_grows b = grind (arith, nat_tests, below_is, below-end_of, none-some)
 
     pub take_reset_taken : (b : Bool) → (is_some l.reset_code || is_whole l) ≡ b → (if b then l else when_reset).final_size ≡ Some size
-    take_reset_taken true e = (let (known, is) = size_known e in is ∙ ap Some (sym (fits known is)))
-    take_reset_taken false e = refl
+    take_reset_taken b e = grind (arith, nat_tests)

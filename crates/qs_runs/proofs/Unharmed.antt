@@ -1,17 +1,16 @@
 -- What a peer made offends against no rule of the end that it comes to.
-use Rattle.std.proofs.Common.{◌≡◌, ℕ, ◌+◌, ◌-◌, ◌/◌, ◌<◌, ◌≤◌, max, Bool, true, false, not, ◌||◌, ◌==◌, nat_lt, List, ◌⊎◌, length, Option, Some, None, Result, Ok, Err, IsOk, unwrap_or, is_some, is_none, slice_get, refl, sym, ap, ◌∙◌, subst, arith, inl, inr, if◌then◌else◌, nat_le, le_antisymm, nat_cmp}
-use Rattle.std.proofs.lemmas.Option.{none-some, slice_get_within}
-use Rattle.std.proofs.lemmas.Bool.{or_from, true≢false, false≢true, both_ways, cases_eq, cases_lt, eq-eqb, le-leb, le-ltb, lt-leb, and_right, not_from_true, cond_both}
+use Rattle.std.proofs.lemmas.Bool.Decides.{nat_tests}
+use Rattle.std.proofs.Common.{◌≡◌, ℕ, ◌+◌, ◌-◌, ◌/◌, ◌<◌, ◌≤◌, max, Bool, true, false, not, List, ◌⊎◌, length, Option, Some, None, Result, IsOk, unwrap_or, is_some, is_none, slice_get, refl, sym, ap, ◌∙◌, subst, arith, inl, inr, if◌then◌else◌, nat_le, le_antisymm, nat_cmp}
+use Rattle.std.proofs.lemmas.Option.{slice_get_within}
+use Rattle.std.proofs.lemmas.Bool.{true≢false, false≢true, cases_eq, lt-leb, and_right}
 use Rattle.std.specs.FinSet as set
 use Rattle.qs_ranges.specs.Numbers.{end_of}
-use Rattle.qs_recv.specs.Lane.{RecvLane, highest, highest_after, breaks_known, check_stream, check_reset, check_bytes, new_lane as new_recv_lane}
+use Rattle.qs_recv.specs.Lane.{RecvLane, highest, check_stream, check_reset, check_bytes, new_lane as new_recv_lane}
 use Rattle.qs_recv.specs.declared.credit.Share.{Share}
 use Rattle.qs_recv.specs.Bytes.{byte_at}
 use Rattle.qs_recv.specs.Laws.{IsSent, IsPart}
 use Rattle.qs_recv.proofs.SameAgain.{sent_passes}
-use Rattle.qs_recv.specs.declared.half.Highest.{Highest}
 use Rattle.qs_recv.specs.declared.half.RecvFault.{RecvFault}
-use Rattle.qs_recv.specs.declared.half.RecvFault.TheVariants.{FinalSize, StreamCredit}
 use Rattle.qs_send.specs.Lane.{SendLane}
 use Rattle.qs_send.specs.declared.piece.Item.TheVariants.{MaxData, MaxStreamData, ResetStream, StopSending, StreamDataBlocked}
 use Rattle.qs_machine.specs.Tables.{Tables, lookup, update, total, open_to}
@@ -79,67 +78,27 @@ no_fault_from b code e = rw e refl
 both_none : (a b : Option ℕ) → a ≡ None → b ≡ None → or_else a b ≡ None
 both_none a b ea eb = rw ea eb
 
-size_fine : (x : Option ℕ) (sent end n : ℕ) (fin : Bool) (before : ℕ) → ((size : ℕ) → x ≡ Some size → size ≡ sent) → before ≤ sent → end ≤ sent → (fin ≡ true → end ≡ sent) → breaks_known x end n fin before ≡ false
-size_fine (Some size) sent end n true before known high le at_end =
-    or_from _ _
-    (and_right (nat_lt 0 n) _ (le-ltb size end (omega (arith, known size refl))))
-    (not_from_true _ (eq-eqb end size (at_end refl ∙ sym (known size refl))))
-size_fine (Some size) sent end n false before known high le at_end = or_from _ _ (and_right (nat_lt 0 n) _ (le-ltb size end (omega (arith, known size refl)))) refl
-size_fine None sent end n true before known high le at_end = le-ltb end before (omega (arith, at_end refl))
-size_fine None sent end n false before known high le at_end = refl
-
--- a check whose tests find nothing
-checked_fine : (e : End) (h : Highest) (b c : Bool) → b ≡ false → c ≡ false → spent e + (h.after - h.before) ≤ e.granted →
-    credit_fault e (if b then Err FinalSize else (if c then Err StreamCredit else Ok h)) ≡ None
-checked_fine e h true c eb ec le = absurd (true≢false eb)
-checked_fine e h false true eb ec le = absurd (true≢false ec)
-checked_fine e h false false eb ec le = no_fault_from _ 3 (le-ltb e.granted (spent e + (h.after - h.before)) le)
-
-after_within : (r : RecvLane) (offset n : ℕ) (fin : Bool) → highest_after r offset n fin ≤ max (highest r) (offset + n)
-after_within r offset n true = omega arith
-after_within r offset n false = cond_both (is_some r.final_size || n == 0) (highest r) _ (λ k. k ≤ max (highest r) (offset + n)) (λ _. omega arith) (λ _. omega arith)
-
 stream_checked : (e : End) (r : RecvLane) (sent offset n : ℕ) (fin : Bool) → ((size : ℕ) → r.final_size ≡ Some size → size ≡ sent) → highest r ≤ sent → offset + n ≤ sent → (fin ≡ true → offset + n ≡ sent) →
     sent ≤ r.limit → spent e + (max (highest r) (offset + n) - highest r) ≤ e.granted → credit_fault e (check_stream r offset n fin) ≡ None
-stream_checked e r sent offset n fin known high le at_end limit credit =
-    checked_fine e (record { before = highest r; after = highest_after r offset n fin }) _ _
-    (size_fine r.final_size sent (offset + n) n fin (highest r) known high le at_end)
-    (le-ltb r.limit (max (highest r) (offset + n)) (omega arith))
-    (omega (arith, after_within r offset n fin))
+stream_checked e r sent offset n fin known high le at_end limit credit = grind (arith, nat_tests)
 
 reset_checked : (e : End) (r : RecvLane) (size : ℕ) → ((known : ℕ) → r.final_size ≡ Some known → known ≡ size) → highest r ≤ size → size ≤ r.limit → spent e + (size - highest r) ≤ e.granted → credit_fault e (check_reset r size) ≡ None
-reset_checked e r size known high limit credit =
-    checked_fine e (record { before = highest r; after = size }) _ _
-    (size_fine r.final_size size (size + 0) 0 true (highest r) known high (omega arith) (λ is. omega arith))
-    (le-ltb r.limit size limit) credit
+reset_checked e r size known high limit credit = grind (arith, nat_tests)
 
 -- a byte of a frame, by its place in it
 byte_of : (offset : ℕ) (bytes : List ℕ) (y b : ℕ) → byte_at offset bytes y ≡ Some b → (offset ≤ y) × (slice_get bytes (y - offset) ≡ Some b)
-byte_of offset bytes y b is =
-    elim (cases_lt y offset) [
-      | inl below ↦ absurd (none-some b (sym (ap (λ c. if c then slice_get bytes (y - offset) else None) (lt-leb offset y below)) ∙ is))
-      | inr low ↦ (low, sym (ap (λ c. if c then slice_get bytes (y - offset) else None) (le-leb offset y low)) ∙ is)
-    ]
+byte_of offset bytes y b is = grind (arith, nat_tests)
 
 bytes_checked : (r : Result (Unit {0}) RecvFault) → IsOk r → fault_of r ≡ None
-bytes_checked (Ok passed) ok = refl
-bytes_checked (Err fault) ok = absurd (both_ways false refl ok)
+bytes_checked r ok = grind (arith, nat_tests)
 
 -- What was told of a stream shows that it is open.
 module _ (p : Past) (e : End) (ok : EndOk p e) where
   send_is_open : (m : ℕ) → (NeverSent p.mine (p.bytes m) m → ⊥) → is_open e.sends m ≡ true
-  send_is_open m sent = go (lookup e.sends m) (ok.sends m)
-    where
-      go : (o : Option SendLane) → SendSlot p m (first_send_limit e m) o → is_some o ≡ true
-      go None h = absurd (sent h)
-      go (Some l) h = refl
+  send_is_open m sent = grind (arith, nat_tests)
 
   recv_is_open : (m : ℕ) → (NeverReceived p.mine (p.gave m) (p.stopped m) (p.ended m) m → ⊥) → is_open e.recvs m ≡ true
-  recv_is_open m sent = go (lookup e.recvs m) (ok.recvs m)
-    where
-      go : (o : Option RecvLane) → RecvSlot p m (first_window e m) o → is_some o ≡ true
-      go None h = absurd (sent h)
-      go (Some l) h = refl
+  recv_is_open m sent = grind (arith, nat_tests)
 
 module _ (p q : Past) (from : p.theirs ≡ q.mine) (back : q.theirs ≡ p.mine) (e f : End) (facing : Facing e f) (ok : EndOk p e) (their : EndOk q f) where
   slot_le : (m : ℕ) (x : Option RecvLane) → RecvSlot p m (first_window e m) x → value highest x ≤ sent_of (lookup f.sends m)
@@ -209,12 +168,10 @@ module _ (p q : Past) (from : p.theirs ≡ q.mine) (back : q.theirs ≡ p.mine) 
   theirs_own n own = facing.opposite n ∙ ap not own
 
   known_granted : (n : ℕ) (b : Bool) → n / 4 < (if b then f.known_uni else f.known_bidi) → n / 4 < (if b then e.granted_uni else e.granted_bidi)
-  known_granted n true lt = omega (arith, lt, facing.uni)
-  known_granted n false lt = omega (arith, lt, facing.bidi)
+  known_granted n b lt = grind (arith, nat_tests)
 
   not_none : {X : Type 0} (o : Option X) → is_some o ≡ true → is_none o ≡ false
-  not_none None e = absurd (false≢true e)
-  not_none (Some x) e = refl
+  not_none o e = grind (arith, nat_tests)
 
   grant_fine : (n : ℕ) → is_open f.sends n ≡ true → is_own e n ≡ false → fault_if (nat_le (grant e n) (n / 4)) STREAM_LIMIT_ERROR ≡ None
   grant_fine n sends own = no_fault_from _ 4 (lt-leb (grant e n) (n / 4) (known_granted n (is_uni n) (their.streams.own_send n sends (theirs_own n own))))
@@ -242,8 +199,7 @@ module _ (p q : Past) (from : p.theirs ≡ q.mine) (back : q.theirs ≡ p.mine) 
 
 -- the same ends, once the stream that a frame names is open
 facing_by : (e f : End) (n : ℕ) (b : Bool) → Facing e f → Facing (if b then e else opens n e) f
-facing_by e f n true h = h
-facing_by e f n false h = record { opposite = h.opposite; first_limit = h.first_limit; first_data = h.first_data; bidi = h.bidi; uni = h.uni }
+facing_by e f n b h = grind (arith, nat_tests)
 
 total_by : (t : Tables RecvLane) (n window : ℕ) (share : Share) (b : Bool) → total highest (if b then t else open_to t n (λ m. new_recv_lane window share)) ≡ total highest t
 total_by t n window share true = refl
