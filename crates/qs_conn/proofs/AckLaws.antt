@@ -27,7 +27,7 @@ use Rattle.qs_machine.specs.Making.{IsText, IsPlainAck, NamesMost}
 use Rattle.qs_conn.specs.declared.filling.Wish.{Wish}
 use Rattle.qs_machine.specs.Filling.{stream_bytes}
 use Rattle.qs_conn.specs.Filling.{IsWished, IsAckLeft, InPacket, IsAckText, Begun, IsPassed, no_slot}
-use Rattle.qs_conn.proofs.PacketOrder.{order_first}
+use Rattle.qs_conn.proofs.Pieces.{order_first}
 use Rattle.qs_conn.proofs.Texts.{no_text, text_push, ack_left}
 
 -- How many ranges there are
@@ -234,16 +234,18 @@ unfolding frame_put
 begun_ack wish room old text t goes asked sent fresh =
     record {
       asked = asked;
-      frames = t.frame ∷ [];
-      fills = subst (λ f. Fills old old (f ∷ []) (record old { ack_due = false })) (sym t.is) (t.may, refl);
-      spells = t.spells;
-      acks = (t.most, tt);
-      wished = subst (λ f. AllByRecursion (IsWished wish) (f ∷ [])) (sym t.is) (goes, tt);
+      framed = record {
+        frames = t.frame ∷ [];
+        fills = subst (λ f. Fills old old (f ∷ []) (record old { ack_due = false })) (sym t.is) (t.may, refl);
+        spells = t.spells;
+        acks = (t.most, tt);
+        wished = subst (λ f. AllByRecursion (IsWished wish) (f ∷ [])) (sym t.is) (goes, tt);
+        ack = λ x. elim t.full [ inl full ↦ inl full | inr all ↦ inr (t.largest, t.ranges, inl (sym t.is), all) ];
+      };
       turns = λ first. subst (λ f. AreInTurn first old (f ∷ [])) (sym t.is) (tt, tt);
       order = order_first old fresh;
       steady = refl;
       within = sent;
-      ack = λ x. elim t.full [ inl full ↦ inl full | inr all ↦ inr (t.largest, t.ranges, inl (sym t.is), all) ];
       items = λ i p x. absurd p;
       no_chunk = λ m c there. fresh (Data m c) there;
       no_byte = ap (λ f. stream_bytes (f ∷ [])) t.is;

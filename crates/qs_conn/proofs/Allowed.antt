@@ -1,5 +1,6 @@
 -- The halves of a type, which one after the other may send more.
 use Rattle.std.proofs.Common.{◌≡◌, ℕ, zero, suc, ◌+◌, ◌*◌, ◌%◌, ◌/◌, ◌<◌, ◌≤◌, List, [], ◌∷◌, ◌++◌, map, take, drop, length, Option, Some, None, is_some, true, slice_get, slice_set, refl, sym, ap, ◌∙◌, subst, arith}
+use Rattle.std.proofs.lemmas.List.{length-append, length-map, length-take, length-drop}
 use Rattle.qs_send.specs.Lane.{SendLane}
 use Rattle.qs_machine.specs.Tables.{Tables, table, with_table, lookup, update, updated}
 use Rattle.qs_machine.specs.Ends.{End, on_send}
@@ -8,10 +9,8 @@ use Rattle.qs_machine.proofs.TableLaws.{table_same, with_same}
 
 module _ {X : Type 0} where
   with_twice : (t : Tables X) (k : ℕ) (xs ys : List X) → with_table (with_table t k xs) k ys ≡ with_table t k ys
-  with_twice t zero xs ys = refl
-  with_twice t (suc zero) xs ys = refl
-  with_twice t (suc (suc zero)) xs ys = refl
   with_twice t (suc (suc (suc k))) xs ys = refl
+  with_twice t _ xs ys = refl
 
   update_with : (t : Tables X) (n : ℕ) (xs : List X) (y : X) → update (with_table t (n % 4) xs) n y ≡ with_table t (n % 4) (slice_set xs (n / 4) y)
   unfolding update
@@ -39,10 +38,7 @@ module _ {X : Type 0} where
   all_changed f (suc i) (x ∷ xs) le = ap (λ ys. f x ∷ ys) (all_changed f i xs (omega (arith, le)))
 
   changed_len : (f : X → X) (i : ℕ) (xs : List X) → length (first_changed f i xs) ≡ length xs
-  changed_len f zero [] = refl
-  changed_len f (suc i) [] = refl
-  changed_len f zero (x ∷ xs) = refl
-  changed_len f (suc i) (x ∷ xs) = ap suc (changed_len f i xs)
+  changed_len f i xs = omega (arith, length-append (map f (take i xs)) (drop i xs), length-map (take i xs) f, length-take i xs, length-drop i xs)
 
   one_more : (f : X → X) (i : ℕ) (xs : List X) → i < length xs → changed (first_changed f i xs) i f (slice_get (first_changed f i xs) i) ≡ first_changed f (suc i) xs
   one_more f i [] lt = absurd (omega (arith, lt))

@@ -40,7 +40,8 @@ use Rattle.qs_conn.proofs.Counted.{fit_sends, fit_allowed, fit_written, fit_fini
 use Rattle.qs_conn.proofs.Flows.{end_chunk}
 use Rattle.qs_conn.proofs.Funded.{sum_lane, reset_sends, stop_sends, sum_piece, sum_put}
 use Rattle.qs_conn.proofs.Kept.{sound_after_read, sound_after_stop, sound_after_forget, sound_opened, sound_after_window}
-use Rattle.qs_conn.proofs.Pieces.{noted_old, put_old}
+use Rattle.qs_conn.proofs.Pieces.{put_old}
+use Rattle.qs_machine.proofs.Carried.{carried_more}
 use Rattle.qs_conn.proofs.Untolds.{recv_own, send_own, recv_noted, send_noted, recvs_open, sends_open, told_carried, told_edited, told_placed, told_unmarked, told_written, told_sent, told_finished, told_allowed, told_buffered, told_put, told_noted, acked_stays, lost_stays, marks_stay, in_idle, out_idle}
 use Rattle.qs_conn.proofs.CarriedSteps.{carried_recv, carried_windowed, carried_send, carried_allowed, carried_chunk, carried_put, carried_acked, carried_lost, carried_placed, carried_opened, wide_none, reset_limit, reset_kept, stop_limit, stop_kept, stop_stop, read_stop, read_limit, stop_recv_limit}
 use Rattle.qs_conn.proofs.EachItem.{each_item}
@@ -322,7 +323,7 @@ module _ (c : Core) (h : IsCore c) where
   core_item i before len after end o false (text, out) e current =
       let sum = sum_put i c.outbox in
       let credit = h.credit in
-      let told = told_carried SendTells c.outbox.sends c.outbox.outstanding c.outbox.acked c.untold_sends h.told_out (item_put_out i c.outbox).outstanding (noted_old (Told i) there) in
+      let told = told_carried SendTells c.outbox.sends c.outbox.outstanding c.outbox.acked c.untold_sends h.told_out (item_put_out i c.outbox).outstanding (carried_more there.outstanding there.next (Told i)) in
       subst (λ (x : Outgoing). IsCore (record c { outbox = x; carried = item_carried i true c.carried; own = own_with i c.own })) (sym out)
       (core_put (Control i) (item_put_out i c.outbox) c.untold_sends (end_put c.limits c.recvs c.outbox there i) (omega (arith, sum, credit)) refl (told_put i c.outbox.sends _ c.outbox.acked c.untold_sends told)
       (item_carried i true c.carried) (carried_put c.limits c.recvs c.outbox e c.carried h.carried i current) (own_with i c.own) (own_told c.limits c.recvs c.outbox e c.own h.own i current))
@@ -332,7 +333,7 @@ module _ (c : Core) (h : IsCore c) where
       → ((m : ℕ) → IsBlockedAt (lookup o.sends n) m → lookup marks n ≡ Some false → ⊥) → IsCore (record c { outbox = o; untold_sends = marks })
   core_chunk n chunk bytes o marks is count credit more blocked =
       let put = chunk_put n chunk c.outbox in
-      let told = told_carried SendTells c.outbox.sends c.outbox.outstanding c.outbox.acked c.untold_sends h.told_out put.outstanding (noted_old (Data n chunk) there) in
+      let told = told_carried SendTells c.outbox.sends c.outbox.outstanding c.outbox.acked c.untold_sends h.told_out put.outstanding (carried_more there.outstanding there.next (Data n chunk)) in
       subst (λ (x : Outgoing). IsCore (record c { outbox = x; untold_sends = marks })) (sym is)
       (core_put (Stream n chunk.offset bytes chunk.fin) put marks (end_chunk c.limits c.recvs c.outbox there n chunk bytes count) credit refl
       (told_sent c.outbox.sends put.outstanding c.outbox.acked c.untold_sends told put.sends n marks chunk refl more (subst (λ (x : Outgoing). (m : ℕ) → IsBlockedAt (lookup x.sends n) m → lookup marks n ≡ Some false → ⊥) is blocked))
@@ -385,6 +386,13 @@ fills_on a b c xs ys zs i j k own more f g =
       rest = rest_on i j k xs ys zs f.rest g.rest;
       room = g.room ∙ f.room;
     }
+
+-- what memory is left
+pub memory_step : (a b : Core) (xs ys : List ℕ) (i j own left : ℕ) → FillsOn a xs i b ys j own → HasMemory a (length xs) i (own + left) → HasMemory b (length ys) j left
+memory_step a b xs ys i j own left f h = memory_less b (length ys) j ((own + left) - own) left (omega arith) (f.memory (own + left) h)
+
+pub memory_six : (c : Core) (room len left : ℕ) → left ≤ 6 → HasMemory c room len 6 → HasMemory c room len left
+memory_six c room len left le h = memory_less c room len 6 left le h
 
 -- marks alone moved
 pub fills_marks : (a b : Core) (ins outs : Tables Bool) (out : List ℕ) (len : ℕ) → IsFilling a out len → IsCore b → b ≡ record a { untold_recvs = ins; untold_sends = outs } → FillsOn a out len b out len 0

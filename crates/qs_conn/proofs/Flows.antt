@@ -1,48 +1,46 @@
 -- The bytes of streams go into a packet, one stream after the other.
-use Rattle.std.proofs.Common.{◌≡◌, ◌≢◌, ℕ, ◌+◌, ◌-◌, ◌<◌, ◌≤◌, Bool, true, false, List, [], ◌∷◌, ◌++◌, ◌⊎◌, length, take, is_some, ◌↔◌, IsTrue, refl, sym, ap, ◌∙◌, subst, arith, inl, inr, None, Some}
-use Rattle.std.proofs.lemmas.Bool.{true≢false, cases_lt}
+use Rattle.std.proofs.Common.{◌≡◌, ◌≢◌, ℕ, ◌+◌, ◌-◌, ◌<◌, ◌≤◌, Bool, true, false, List, [], ◌++◌, ◌⊎◌, length, take, is_some, ◌↔◌, IsTrue, refl, sym, ap, ◌∙◌, subst, arith, inl, inr, Some}
+use Rattle.std.proofs.lemmas.Bool.{true≢false, cases_lt, cases_eq}
+use Rattle.std.proofs.lemmas.Bool.Decides.{nat_tests}
 use Rattle.std.proofs.lemmas.List.{length-append, length-take-le}
 use Rattle.std.proofs.lemmas.Option.{same_Some, none-some}
-use Rattle.std.specs.List.{AllByRecursion}
 use Rattle.std.specs.FinSet as set
 use Rattle.qs_wire.specs.Layout.{FrameValue, stream}
 use Rattle.qs_wire.specs.Varint.{short}
 use Rattle.qs_wire.proofs.Numbers.{short_positive}
 use Rattle.qs_wire.specs.Grammar.{Fits, canonical}
-use Rattle.qs_send.specs.Lane.{SendLane, Sending, sent_lane, bytes_of}
-use Rattle.qs_send.specs.Chunks.{IsAllowed, IsNextChunk, HasNoChunk, HasBytes, IsHeldByRoom, frame_len}
+use Rattle.qs_send.specs.Lane.{SendLane, Sending, sent_lane, after_sent, bytes_of}
+use Rattle.qs_send.specs.Chunks.{IsDueChunk, IsAllowed, IsNextChunk, HasNoChunk, HasBytes, IsHeldByRoom, frame_len}
 use Rattle.qs_send.specs.Laws.{fresh_after}
 use Rattle.qs_send.specs.declared.parts.Chunk.{Chunk}
-use Rattle.qs_send.specs.declared.piece.Item.{Item}
 use Rattle.qs_send.specs.declared.piece.Piece.{Piece}
 use Rattle.qs_send.specs.declared.piece.Piece.TheVariants.{Data}
 use Rattle.qs_send.proofs.Canonical.{frame_len_is_canonical}
 use Rattle.qs_send.proofs.Held.{held_by_room_or_limits}
-use Rattle.qs_ranges.specs.Numbers.{MAX_VARINT, same_numbers}
+use Rattle.qs_send.proofs.Numbers.{short_len-more}
+use Rattle.qs_send.proofs.Packets.{cut_chunk_is_last}
+use Rattle.qs_ranges.specs.Numbers.{MAX_VARINT, contains-without_range}
 use Rattle.qs_recv.specs.Lane.{RecvLane}
 use Rattle.qs_conn.specs.declared.limits.Limits.{Limits}
 use Rattle.qs_conn.specs.declared.filling.Wish.{Wish}
 use Rattle.qs_machine.specs.Outgoing.{Outgoing, HasSending, chunk_put, on_lane, sent_sum}
 use Rattle.qs_machine.specs.Sums.{or_none}
 use Rattle.qs_machine.proofs.TableLaws.{lookup_same, total_update}
-use Rattle.qs_machine.specs.Tables.{Tables, lookup, updated}
+use Rattle.qs_machine.specs.Tables.{Tables, lookup}
 use Rattle.qs_machine.specs.Ends.{End, send_lane}
 use Rattle.qs_machine.specs.Credit.{all_sent}
-use Rattle.qs_machine.specs.Seen.{Seen, Ack, Stream, Control, seen_all}
-use Rattle.qs_machine.specs.Due.{Among, IsDueItem, IsDue, IsEndDue, ByteGoes, StreamGoes}
-use Rattle.qs_machine.specs.Lawful.{Fills, AcksAll, AreInTurn, ComesBefore, frame_put}
+use Rattle.qs_machine.specs.Seen.{Seen, Stream, Control, seen_all}
+use Rattle.qs_machine.specs.Due.{ByteGoes, StreamGoes}
+use Rattle.qs_machine.specs.Lawful.{AcksAll, ComesBefore, frame_put, chunk_of}
 use Rattle.qs_calls.specs.declared.filling.Fill.{Fill}
-use Rattle.qs_machine.specs.Filling.{IsAsked, stream_bytes, bytes_left, EndGoesAlone, GoesWithin}
-use Rattle.qs_machine.specs.Making.{NamesMost}
-use Rattle.qs_machine.proofs.Carried.{among_more}
-use Rattle.qs_conn.specs.Filling.{IsWished, HasWished, IsAckLeft, end_by, MayGo, stream_frame, InPacket, all_items, turn_at, HadTurn, IsOnWay, start_of, way_end, Content, WithItems, Flowing, Flow, Packed, PackedBy, Stage, IsPassed}
-use Rattle.qs_conn.proofs.Items.{fills_push}
-use Rattle.qs_conn.proofs.Texts.{all_push, no_text, text_push, seen_push}
-use Rattle.qs_conn.proofs.Stages.{turn_push, bytes_push, begun_content}
-use Rattle.qs_conn.proofs.PacketOrder.{order_chunk}
-use Rattle.qs_conn.proofs.Chunks.{Ties, ties_of, same_truth, IsClear, may_carry, chunk_lane, chunk_sum, chunk_known, clear_old, clear_new, cut_last, goes_other, chunk_only, none_goes}
+use Rattle.qs_machine.specs.Filling.{IsAsked, EndGoesAlone, GoesWithin}
+use Rattle.qs_conn.specs.Filling.{IsAckLeft, end_by, MayGo, stream_frame, InPacket, all_items, Turn, turn_at, HadTurn, IsOnWay, start_of, way_end, Framed, Content, WithItems, Flowing, Flow, Packed, PackedBy, Stage, IsPassed}
+use Rattle.qs_conn.proofs.Stages.{framed_first, framed_among, framed_turn, framed_bytes, framed_more, begun_content}
+use Rattle.qs_conn.proofs.Pieces.{order_put, item_in}
+use Rattle.qs_conn.proofs.Chunks.{Allowed, Found, Ties, ties_of, ties_sent, one_half, IsClear, may_carry, byte_of, chunk_sum, chunk_known, clear_old, clear_new, goes_other, chunk_only, none_goes}
+use Rattle.qs_conn.proofs.DueTied.{due_is}
 use Rattle.qs_conn.proofs.Openings.{none_is}
-use Rattle.qs_conn.proofs.Sendables.{passed_all}
+use Rattle.qs_conn.proofs.Passing.{passed_all}
 
 -- A packet with the streams that had their turn before n, and some chunks of stream n: of these no later one begins where another ended,
 -- or none may follow.
@@ -52,66 +50,51 @@ pub record Chunking (wish : Wish) (room : ℕ) (old : End) (text : List ℕ) (e 
   pub on_way : IsOnWay around first n
   pub over : (m : ℕ) → HadTurn around first n m → StreamGoes e m → ⊥
   pub untouched : (m : ℕ) → (HadTurn around first n m → ⊥) → m ≢ n → (c : Chunk) → InPacket e (Data m c) → ⊥
-  pub clear : ((l : SendLane) → send_lane e n ≡ Some l → (c : Chunk) → InPacket e (Data n c) → IsClear e n l c)
-      ⊎ ((s : Sending) → Ties e n s → HasNoChunk s (room - length text) (e.known_data - all_sent e))
+  pub clear : (s : Sending) → Ties e n s → ((c : Chunk) → InPacket e (Data n c) → IsClear s c) ⊎ HasNoChunk s (room - length text) (e.known_data - all_sent e)
 
 -- Turns
 
 had_or_not : (around : Bool) (first at m : ℕ) → HadTurn around first at m ⊎ (HadTurn around first at m → ⊥)
-had_or_not false first at m = elim (cases_lt m first) [
-  | inl low ↦ inr (λ (ge, lt). omega (arith, ge, low))
-  | inr ge ↦ elim (cases_lt m at) [ inl lt ↦ inl (ge, lt) | inr past ↦ inr (λ (ge, lt). omega (arith, lt, past)) ]
-]
-had_or_not true first at m = elim (cases_lt m first) [
-  | inl low ↦ elim (cases_lt m at) [ inl lt ↦ inl (inr lt) | inr past ↦ inr (λ had. elim had [ inl ge ↦ omega (arith, ge, low) | inr lt ↦ omega (arith, lt, past) ]) ]
-  | inr ge ↦ inl (inl ge)
-]
-
--- two numbers are the same, or not
-cases_eq : (m n : ℕ) → (m ≡ n) ⊎ (m ≢ n)
-cases_eq m n = elim (cases_lt m n) [ inl lt ↦ inr (λ same. omega (arith, same, lt)) | inr ge ↦ elim (cases_lt n m) [ inl lt ↦ inr (λ same. omega (arith, same, lt)) | inr le ↦ inl (omega (arith, ge, le)) ] ]
+had_or_not false first at m = grind arith
+had_or_not true first at m = grind arith
 
 -- a stream's turn isn't over as it begins
 not_yet : (around : Bool) (first n : ℕ) → IsOnWay around first n → HadTurn around first n n → ⊥
-not_yet false first n on (ge, lt) = omega (arith, lt)
-not_yet true first n on (inl ge) = omega (arith, on, ge)
-not_yet true first n on (inr lt) = omega (arith, lt)
+not_yet around first n on had = grind (arith, had)
 
 -- it is over as the next one begins
 now_had : (around : Bool) (first n : ℕ) → IsOnWay around first n → HadTurn around first (n + 1) n
-now_had false first n on = (on, omega arith)
-now_had true first n on = inr (omega arith)
+now_had around first n on = grind arith
 
 had_still : (around : Bool) (first a b m : ℕ) → a ≤ b → HadTurn around first a m → HadTurn around first b m
-had_still false first a b m le (ge, lt) = (ge, omega (arith, lt, le))
-had_still true first a b m le (inl ge) = inl ge
-had_still true first a b m le (inr lt) = inr (omega (arith, lt, le))
+had_still around first a b m le had = grind (arith, had)
 
 -- turns that were over before, and those between
 had_before : (around : Bool) (first a b m : ℕ) → HadTurn around first b m → HadTurn around first a m ⊎ ((a ≤ m) × (m < b))
-had_before false first a b m (ge, lt) = elim (cases_lt m a) [ inl before ↦ inl (ge, before) | inr past ↦ inr (past, lt) ]
-had_before true first a b m (inl ge) = inl (inl ge)
-had_before true first a b m (inr lt) = elim (cases_lt m a) [ inl before ↦ inl (inr before) | inr past ↦ inr (past, lt) ]
+had_before around first a b m had = grind (arith, had)
 
 -- a stream that isn't of the way lies behind all of it that are left
 pub off_way : (around : Bool) (first from past n : ℕ) → start_of around first ≤ from → from ≤ past → (IsOnWay around first past → ⊥) → IsOnWay around first n → n < past
-off_way false first from past n begun le off on = absurd (off (omega (arith, begun, le)))
-off_way true first from past n begun le off on = elim (cases_lt n past) [ inl lt ↦ lt | inr ge ↦ absurd (off (omega (arith, ge, on))) ]
+off_way around first from past n begun le off on = grind (arith, begun, off, on)
+
+-- all had theirs once the way around is done
+pub had_all : (first n : ℕ) → HadTurn true first first n
+had_all first n = grind arith
 
 -- what comes before a stream had its turn
 comes_before : (around : Bool) (first m n : ℕ) → IsOnWay around first n → ComesBefore first m n → HadTurn around first n m
-comes_before false first m n on (inl (ge, lt)) = absurd (omega (arith, on, lt))
-comes_before false first m n on (inr (lt, inl ge)) = (ge, lt)
-comes_before false first m n on (inr (lt, inr below)) = absurd (omega (arith, on, below))
-comes_before true first m n on (inl (ge, lt)) = inl ge
-comes_before true first m n on (inr (lt, some)) = inr lt
+comes_before around first m n on before = grind (arith, before)
+
+-- a stream that is behind another one in turn
+comes_after : (around : Bool) (first m n : ℕ) → IsOnWay around first n → (HadTurn around first n m → ⊥) → m ≢ n → ComesBefore first n m
+comes_after around first m n on not ne = grind (arith, not, ne)
 
 -- after the control items
 pub flow_first : (first : ℕ) (wish : Wish) (room : ℕ) (old : End) (text : List ℕ) (e : End) (b : Bool) → first ≡ wish.want.first → Stage wish room old text e b all_items → Flow wish room old text e wish.want.most_bytes b (turn_at false first first)
 flow_first first wish room old text e true at s = s first
 flow_first first wish room old text e false at s =
     record {
-      so_far = record { begins = at; content = begun_content wish room old text e (IsPassed all_items) s first; ack = s.ack; items = λ on i due. s.items i (passed_all i) due };
+      so_far = record { begins = at; content = begun_content wish room old text e (IsPassed all_items) s first; items = λ on i due. s.items i (passed_all i) due };
       over = λ n (ge, lt). absurd (omega (arith, ge, lt));
       untouched = λ n no c there. s.no_chunk n c there;
     }
@@ -126,8 +109,7 @@ flow_bare first wish room old left at unasked goes none within fresh = subst (λ
         record {
           so_far = record {
             begins = at;
-            content = record { frames = []; fills = refl; cap = omega arith; spells = no_text wish.delay; acks = tt; wished = tt; turns = tt; order = λ on. absurd (true≢false (sym on ∙ unasked)); within = within };
-            ack = λ due. absurd (true≢false (sym due ∙ none));
+            content = record { framed = framed_first wish room old none; cap = omega arith; turns = tt; order = λ on. absurd (true≢false (sym on ∙ unasked)); within = within };
             items = λ on. absurd (true≢false (sym on ∙ unasked));
           };
           over = λ n (ge, lt). absurd (omega (arith, ge, lt));
@@ -148,34 +130,28 @@ chunking_begins wish room old text e quota around first n asked on f =
       on_way = on;
       over = f.over;
       untouched = λ m no ne. f.untouched m no;
-      clear = inl (λ l there c in_it. absurd (f.untouched n (not_yet around first n on) c in_it));
+      clear = λ s t. inl (λ c there. absurd (f.untouched n (not_yet around first n on) c there));
     }
+
+-- where there is room for any frame, the ACK is whole
+acked : {wish : Wish} {room : ℕ} {old : End} {text : List ℕ} {e : End} (f : Framed wish room old text e) → length text + 25 ≤ room → wish.ack_due ≡ true → AcksAll old (seen_all f.frames)
+acked f left due = elim (f.ack due) [ inl full ↦ absurd (omega (arith, left, full)) | inr all ↦ all ]
 
 -- bytes of the stream may go
 abbrev pub BytesGo : End → ℕ → Type 0
 BytesGo e n = (l : SendLane) × (send_lane e n ≡ Some l) × ByteGoes e n l
 
--- a stream that is behind another one in turn
-comes_after : (around : Bool) (first m n : ℕ) → IsOnWay around first n → (HadTurn around first n m → ⊥) → m ≢ n → ComesBefore first n m
-comes_after false first m n on not ne = elim (cases_lt m n) [
-  | inl lt ↦ elim (cases_lt m first) [ inl low ↦ inl (on, low) | inr ge ↦ absurd (not (ge, lt)) ]
-  | inr ge ↦ inr (omega (arith, ge, ne), inl on)
-]
-comes_after true first m n on not ne = elim (cases_lt m first) [
-  | inl low ↦ elim (cases_lt m n) [ inl lt ↦ absurd (not (inr lt)) | inr ge ↦ inr (omega (arith, ge, ne), inr low) ]
-  | inr ge ↦ absurd (not (inl ge))
-]
-
 -- Once the cap is used up and a stream has bytes that may go, no end goes alone: not its own, and no other in its turn.
-capped_whole : (wish : Wish) (room : ℕ) (old : End) (text : List ℕ) (e : End) (frames : List Seen) (around : Bool) (first n : ℕ) → IsOnWay around first n → bytes_left wish.want frames ≡ 0
-    → (wish.ack_due ≡ true → (room < length text + 25) ⊎ AcksAll old frames) → (wish.want.items ≡ true → (i : Item) → IsDueItem old i → Among (Control i) frames)
-    → ((m : ℕ) → HadTurn around first n m → StreamGoes e m → ⊥) → BytesGo e n → first ≡ wish.want.first → length text + 25 ≤ room → HasWished wish old frames e
-capped_whole wish room old text e frames around first n on none ack items over (l, lane, byte) at left =
+capped : (first : ℕ) (wish : Wish) (room : ℕ) (old : End) (text : List ℕ) (e : End) (around : Bool) (n : ℕ) → WithItems first wish room old text e 0 → IsOnWay around first n → ((m : ℕ) → HadTurn around first n m → StreamGoes e m → ⊥) → BytesGo e n → Packed first wish room old text e 0
+capped first wish room old text e around n w on over (l, lane, byte) =
     record {
-      ack = λ due. elim (ack due) [ inl full ↦ absurd (omega (arith, left, full)) | inr all ↦ all ];
-      wanted = record {
-        items = items;
-        streams = λ m asked goes. elim goes [ inl (some, go) ↦ absurd (omega (arith, some, none)) | inr alone ↦ ends m (subst (λ x. EndGoesAlone x e m) (sym at) alone) (cases_eq m n) ];
+      content = w.content;
+      whole = λ left. record {
+        ack = acked w.content.framed left;
+        wanted = record {
+          items = w.items;
+          streams = λ m asked goes. elim goes [ inl (some, go) ↦ absurd (omega (arith, some, w.content.cap)) | inr alone ↦ ends m (rw (← w.begins) at alone) (cases_eq m n) ];
+        };
       };
     }
   where
@@ -211,30 +187,29 @@ module _ (wish : Wish) (room : ℕ) (old : End) (text : List ℕ) (e : End) (quo
 
   -- the cap was used up before, and the stream has bytes that may go
   pub chunking_none : quota ≡ 0 → BytesGo e n → Packed first wish room old text e 0
-  chunking_none none goes =
-      subst (Packed first wish room old text e) none (record { content = it; whole = capped_whole wish room old text e (seen_all it.frames) around first n k.on_way (omega (arith, it.cap, none)) k.so_far.ack k.so_far.items k.over goes k.so_far.begins })
+  chunking_none none goes = capped first wish room old text e around n (rw none at k.so_far) k.on_way k.over goes
 
   module _ (c : Chunk) (allowed : IsAllowed s (room - length text) (e.known_data - all_sent e) c) (has : HasBytes s.lane c) (bytes : List ℕ) (is : bytes ≡ bytes_of s.lane c) (count : length bytes ≡ c.len) where
     abbrev frame : FrameValue
     frame = stream n c.offset c.fin bytes
 
+    abbrev put : Seen
+    put = Stream n c.offset bytes c.fin
+
     abbrev after : End
-    after = frame_put (Stream n c.offset bytes c.fin) e
+    after = frame_put put e
 
     abbrev text' : List ℕ
     text' = text ++ canonical frame
-
-    abbrev frames' : List FrameValue
-    frames' = it.frames ++ frame ∷ []
 
     pub chunk_len : length (canonical frame) ≡ frame_len n c.offset c.len
     chunk_len = sym (frame_len_is_canonical n c.offset c.fin bytes) ∙ ap (frame_len n c.offset) count
 
     pub chunk_fits : Fits frame
-    chunk_fits = (omega (arith, t.id, t.lawful.order.small_id), omega (arith, count, has.end, t.lawful.order.small))
+    chunk_fits = (omega (arith, t.tied.id, t.lawful.order.small_id), omega (arith, count, has.end, t.lawful.order.small))
 
     room_is : frame_len s.lane.id c.offset c.len ≡ frame_len n c.offset c.len
-    room_is = ap (λ m. frame_len m c.offset c.len) t.id
+    room_is = ap (λ m. frame_len m c.offset c.len) t.tied.id
 
     len' : length text' ≡ length text + frame_len n c.offset c.len
     len' = omega (arith, length-append text (canonical frame), chunk_len)
@@ -245,122 +220,80 @@ module _ (wish : Wish) (room : ℕ) (old : End) (text : List ℕ) (e : End) (quo
     fresh : fresh_after s.lane (e.known_data - all_sent e) c ≡ after.known_data - all_sent after
     fresh = omega (arith, chunk_known e n s t c allowed.chunk bytes count, chunk_sum e n s t c allowed.chunk bytes count, it.within, allowed.within_credit)
 
-    clear_before : (d : Chunk) → InPacket e (Data n d) → IsClear e n s.lane d
-    clear_before d there = elim k.clear [ inl clear ↦ clear s.lane t.lane d there | inr none ↦ absurd (none s t c allowed) ]
+    clear_before : (d : Chunk) → InPacket e (Data n d) → IsClear s d
+    clear_before = elim (k.clear s t) [ inl clear ↦ clear | inr none ↦ absurd (none c allowed) ]
 
-    clear_after : IsNextChunk s (room - length text) (e.known_data - all_sent e) c → (b : Bool) → set.contains s.due.offsets (c.offset + c.len) ≡ b → ((l : SendLane) → send_lane after n ≡ Some l → (d : Chunk) → InPacket after (Data n d) → IsClear after n l d)
-        ⊎ ((s' : Sending) → Ties after n s' → HasNoChunk s' (room - length text') (after.known_data - all_sent after))
-    clear_after next true more = inr (λ s' t'. subst (λ f. HasNoChunk s' (room - length text') f) fresh (subst (λ r. HasNoChunk s' r (fresh_after s.lane (e.known_data - all_sent e) c)) left (cut_last e n s t c allowed.chunk bytes count (room - length text) (e.known_data - all_sent e) next more s' t')))
-    clear_after next false none = inl (λ l there d in_it. (
-        let lane : sent_lane s.lane c ≡ l = same_Some (sent_lane s.lane c) l (sym (chunk_lane e n s t c allowed.chunk bytes count) ∙ there) in
-        subst (λ x. IsClear after n x d) lane (elim (chunk_only e n s t c allowed.chunk bytes count n d in_it) [
-          | inl before ↦ clear_old e n s t c allowed.chunk bytes count d (clear_before d before)
-          | inr (same, new) ↦ subst (IsClear after n (sent_lane s.lane c)) (sym new) (clear_new e n s t c allowed.chunk bytes count none)
-        ])))
-
-    -- what the packet has then
-    fills' : Fills old old (seen_all frames') after
-    fills' = subst (λ fs. Fills old old fs after) (sym (seen_push it.frames frame)) (fills_push old old e (seen_all it.frames) (Stream n c.offset bytes c.fin) it.fills (s.lane, may_carry e n s t c allowed.chunk bytes is count has clear_before))
-
-    cap' : (rest : ℕ) → rest + c.len ≡ quota → stream_bytes (seen_all frames') + rest ≡ wish.want.most_bytes
-    cap' rest split = (let sum = ap stream_bytes (seen_push it.frames frame) ∙ bytes_push (seen_all it.frames) (Stream n c.offset bytes c.fin) in omega (arith, sum, it.cap, split, count))
-
-    wished' : AllByRecursion (IsWished wish) (seen_all frames')
-    wished' = subst (AllByRecursion (IsWished wish)) (sym (seen_push it.frames frame)) (all_push (IsWished wish) (seen_all it.frames) (Stream n c.offset bytes c.fin) it.wished k.asked)
-
-    turns' : AreInTurn first old (seen_all frames')
-    turns' = subst (AreInTurn first old) (sym (seen_push it.frames frame)) (turn_push first old old (seen_all it.frames) (Stream n c.offset bytes c.fin) e it.fills it.turns (λ m before. k.over m (comes_before around first m n k.on_way before)))
-
-    within' : all_sent after ≤ after.known_data
-    within' = omega (arith, chunk_known e n s t c allowed.chunk bytes count, chunk_sum e n s t c allowed.chunk bytes count, it.within, allowed.within_credit)
-
-    more : (x : Seen) → Among x (seen_all it.frames) → Among x (seen_all frames')
-    more x there = subst (Among x) (sym (seen_push it.frames frame)) (among_more (seen_all it.frames) (Stream n c.offset bytes c.fin ∷ []) x there)
-
-    items' : wish.want.items ≡ true → (i : Item) → IsDueItem old i → Among (Control i) (seen_all frames')
-    items' on i due = more (Control i) (k.so_far.items on i due)
-
-    ack' : wish.ack_due ≡ true → (room < length text' + 25) ⊎ AcksAll old (seen_all frames')
-    ack' due = elim (k.so_far.ack due) [ inl full ↦ inl (omega (arith, len', full)) | inr (largest, ranges, there, all) ↦ inr (largest, ranges, more (Ack largest ranges) there, all) ]
+    clear_after : IsNextChunk s (room - length text) (e.known_data - all_sent e) c → (b : Bool) → set.contains s.due.offsets (c.offset + c.len) ≡ b → ((d : Chunk) → InPacket after (Data n d) → IsClear (after_sent s c) d) ⊎ HasNoChunk (after_sent s c) (room - length text') (after.known_data - all_sent after)
+    clear_after next true more = inr (subst (HasNoChunk (after_sent s c) (room - length text')) fresh (subst (λ r. HasNoChunk (after_sent s c) r (fresh_after s.lane (e.known_data - all_sent e) c)) left (cut_chunk_is_last s (room - length text) (e.known_data - all_sent e) c t.lawful next more)))
+    clear_after next false none = inl (λ d in_it. elim (chunk_only e n s t c allowed.chunk bytes count n d in_it) [
+      | inl before ↦ clear_old e n s t c allowed.chunk bytes count d (clear_before d before)
+      | inr (same, new) ↦ rw new (clear_new e n s t c allowed.chunk bytes count none)
+    ])
 
     over' : (m : ℕ) → HadTurn around first n m → StreamGoes after m → ⊥
     over' m had goes = k.over m had (goes_other e n s t c allowed.chunk bytes count m (λ same. not_yet around first n k.on_way (subst (HadTurn around first n) same had)) goes)
 
-    abbrev content' : (rest : ℕ) → rest + c.len ≡ quota → Content first wish room old text' after rest
-    content' rest split =
+    -- what the packet has then
+    so_far' : (rest : ℕ) → rest + c.len ≡ quota → WithItems first wish room old text' after rest
+    so_far' rest split =
         record {
-          frames = frames';
-          fills = fills';
-          cap = cap' rest split;
-          spells = text_push wish.delay it.frames text frame it.spells chunk_fits tt;
-          acks = all_push (NamesMost old wish.delay room) it.frames frame it.acks tt;
-          wished = wished';
-          turns = turns';
-          order = λ on. order_chunk old e (seen_all it.frames) n c.offset bytes c.fin it.fills (k.so_far.items on) (it.order on);
-          within = within';
+          begins = k.so_far.begins;
+          content = record {
+            framed = framed_more wish room old text e it.framed frame put refl (s.lane, may_carry e n s t c allowed.chunk bytes is count has clear_before) chunk_fits tt tt k.asked;
+            cap = omega (arith, framed_bytes wish room old text e it.framed frame put refl, it.cap, split, count);
+            turns = framed_turn wish room old text e it.framed frame put refl first it.turns (λ m before. k.over m (comes_before around first m n k.on_way before));
+            order = λ on. order_put old e put (Data n (chunk_of c.offset bytes c.fin)) refl (λ j due. item_in old old e (seen_all it.framed.frames) j it.framed.fills (k.so_far.items on j due)) (it.order on);
+            within = omega (arith, chunk_known e n s t c allowed.chunk bytes count, chunk_sum e n s t c allowed.chunk bytes count, it.within, allowed.within_credit);
+          };
+          items = λ on i due. framed_among wish room old text e it.framed frame put refl (Control i) (k.so_far.items on i due);
         }
 
     -- one more chunk
     pub chunking_next : IsNextChunk s (room - length text) (e.known_data - all_sent e) c → (rest : ℕ) → rest + c.len ≡ quota → Chunking wish room old text' after rest around first n
     chunking_next next rest split =
         record {
-          so_far = record { begins = k.so_far.begins; content = content' rest split; ack = ack'; items = items' };
+          so_far = so_far' rest split;
           asked = k.asked;
           on_way = k.on_way;
           over = over';
           untouched = λ m no ne d there. elim (chunk_only e n s t c allowed.chunk bytes count m d there) [ inl before ↦ k.untouched m no ne d before | inr (same, new) ↦ ne same ];
-          clear = clear_after next (set.contains s.due.offsets (c.offset + c.len)) refl;
+          clear = λ x u. rw (one_half after n x (after_sent s c) u (ties_sent e n s t c allowed.chunk bytes count)) (clear_after next (set.contains s.due.offsets (c.offset + c.len)) refl);
         }
 
     -- the cap is used up, and the stream has bytes that may go still: nothing more may go in
     pub chunking_cut : c.len ≡ quota → BytesGo after n → Packed first wish room old text' after 0
-    chunking_cut all goes =
-        record {
-          content = content' 0 (omega (arith, all));
-          whole = capped_whole wish room old text' after (seen_all frames') around first n k.on_way (omega (arith, cap' 0 (omega (arith, all)))) ack' items' over' goes k.so_far.begins;
-        }
+    chunking_cut all goes = capped first wish room old text' after around n (so_far' 0 (omega (arith, all))) k.on_way over' goes
 
--- a stream that can't send
-pub flow_absent : (wish : Wish) (room : ℕ) (old : End) (text : List ℕ) (e : End) (quota : ℕ) (around : Bool) (first n : ℕ) → send_lane e n ≡ None → Flowing wish room old text e quota (turn_at around first n) → Flowing wish room old text e quota (turn_at around first (n + 1))
-flow_absent wish room old text e quota around first n none f =
+-- The turns of more streams are over, of which nothing goes.
+pub flow_more : (wish : Wish) (room : ℕ) (old : End) (text : List ℕ) (e : End) (quota : ℕ) (b : Bool) (t u : Turn) → u.first ≡ t.first → (b ≡ false → (n : ℕ) → HadTurn u.around u.first u.at n → HadTurn t.around t.first t.at n ⊎ (StreamGoes e n → ⊥))
+    → ((n : ℕ) → HadTurn t.around t.first t.at n → HadTurn u.around u.first u.at n) → Flow wish room old text e quota b t → Flow wish room old text e quota b u
+flow_more wish room old text e quota true t u same ended still f = rw same f
+flow_more wish room old text e quota false t u same ended still f =
     record {
-      so_far = f.so_far;
-      over = λ m had goes. elim (had_before around first n (n + 1) m had) [ inl before ↦ f.over m before goes | inr (ge, lt) ↦ (let same : m ≡ n = omega (arith, lt, ge) in absurd (none-some goes.0 (sym none ∙ ap (send_lane e) (sym same) ∙ goes.1))) ];
-      untouched = λ m no. f.untouched m (λ had. no (had_still around first n (n + 1) m (omega arith) had));
+      so_far = rw same f.so_far;
+      over = λ m had goes. elim (ended refl m had) [ inl before ↦ f.over m before goes | inr none ↦ none goes ];
+      untouched = λ m no. f.untouched m (λ had. no (still m had));
     }
 
--- streams of which nothing goes
+-- those up to the next one that is looked at
 pub flow_idle : (wish : Wish) (room : ℕ) (old : End) (text : List ℕ) (e : End) (quota : ℕ) (b : Bool) (around : Bool) (first done next : ℕ) → done ≤ next → ((n : ℕ) → done ≤ n → n < next → StreamGoes e n → ⊥) → Flow wish room old text e quota b (turn_at around first done) → Flow wish room old text e quota b (turn_at around first next)
-flow_idle wish room old text e quota true around first done next le idle f = f
-flow_idle wish room old text e quota false around first done next le idle f =
-    record {
-      so_far = f.so_far;
-      over = λ m had goes. elim (had_before around first done next m had) [ inl before ↦ f.over m before goes | inr (ge, lt) ↦ absurd (idle m ge lt goes) ];
-      untouched = λ m no. f.untouched m (λ had. no (had_still around first done next m le had));
-    }
+flow_idle wish room old text e quota b around first done next le idle =
+    flow_more wish room old text e quota b (turn_at around first done) (turn_at around first next) refl
+    (λ open_end m had. elim (had_before around first done next m had) [ inl before ↦ inl before | inr (ge, lt) ↦ inr (idle m ge lt) ]) (λ m. had_still around first done next m le)
 
--- all streams of the way were looked at
-pub flow_way : (wish : Wish) (room : ℕ) (old : End) (text : List ℕ) (e : End) (quota : ℕ) (b : Bool) (around : Bool) (first done : ℕ) → ((n : ℕ) → done ≤ n → IsOnWay around first n → StreamGoes e n → ⊥) → Flow wish room old text e quota b (turn_at around first done) → Flow wish room old text e quota b (way_end around first)
-flow_way wish room old text e quota true false first done past f = f
-flow_way wish room old text e quota true true first done past f = f
-flow_way wish room old text e quota false false first done past f =
-    record {
-      so_far = f.so_far;
-      over = λ m had goes. elim had [
-        | inl ge ↦ elim (cases_lt m done) [ inl lt ↦ f.over m (ge, lt) goes | inr le ↦ past m le ge goes ]
-        | inr none ↦ absurd (omega (arith, none))
-      ];
-      untouched = λ m no. f.untouched m (λ (ge, lt). no (inl ge));
-    }
-flow_way wish room old text e quota false true first done past f =
-    record {
-      so_far = f.so_far;
-      over = λ m had goes. elim had [
-        | inl ge ↦ f.over m (inl ge) goes
-        | inr on ↦ elim (cases_lt m done) [ inl lt ↦ f.over m (inr lt) goes | inr le ↦ past m le on goes ]
-      ];
-      untouched = λ m no c there. elim (cases_lt m first) [ inl lt ↦ no (inr lt) | inr ge ↦ no (inl ge) ];
-    }
+-- or all of the way
+pub flow_way : (wish : Wish) (room : ℕ) (old : End) (text : List ℕ) (e : End) (quota : ℕ) (b : Bool) (around : Bool) (first done : ℕ) → (b ≡ false → (n : ℕ) → done ≤ n → IsOnWay around first n → StreamGoes e n → ⊥) → Flow wish room old text e quota b (turn_at around first done) → Flow wish room old text e quota b (way_end around first)
+flow_way wish room old text e quota b false first done past =
+    flow_more wish room old text e quota b (turn_at false first done) (turn_at true first 0) refl
+    (λ open_end m had. elim had [ inl ge ↦ elim (cases_lt m done) [ inl lt ↦ inl (ge, lt) | inr le ↦ inr (past open_end m le ge) ] | inr none ↦ absurd (omega (arith, none)) ]) (λ m (ge, lt). inl ge)
+flow_way wish room old text e quota b true first done past =
+    flow_more wish room old text e quota b (turn_at true first done) (turn_at true first first) refl
+    (λ open_end m had. elim had [ inl ge ↦ inl (inl ge) | inr on ↦ elim (cases_lt m done) [ inl lt ↦ inl (inr lt) | inr le ↦ inr (past open_end m le on) ] ]) (λ m had. had_all first m)
+
+-- or that of a stream that can't send
+pub flow_none : (wish : Wish) (room : ℕ) (old : End) (text : List ℕ) (e : End) (quota : ℕ) (b : Bool) (around : Bool) (first n : ℕ) → is_some (send_lane e n) ≡ false → Flow wish room old text e quota b (turn_at around first n) → Flow wish room old text e quota b (turn_at around first (n + 1))
+flow_none wish room old text e quota b around first n none =
+    flow_idle wish room old text e quota b around first n (n + 1) (omega arith) (λ m ge lt (l, at, goes). (let same : m ≡ n = omega (arith, ge, lt) in none-some l (sym (none_is (send_lane e n) none) ∙ ap (send_lane e) (sym same) ∙ at)))
 
 -- what may go within the cap may go
 pub within_goes : (quota first : ℕ) (e : End) (n : ℕ) → GoesWithin quota first e n → StreamGoes e n
@@ -374,13 +307,10 @@ flow_packed first wish room old text e quota false around at had f =
     record {
       packed = record {
         content = f.so_far.content;
-        whole = λ left. record { ack = acked left; wanted = record { items = f.so_far.items; streams = λ n asked goes. f.over n (had n asked) (within_goes _ _ e n goes) } };
+        whole = λ left. record { ack = acked f.so_far.content.framed left; wanted = record { items = f.so_far.items; streams = λ n asked goes. f.over n (had n asked) (within_goes _ _ e n goes) } };
       };
       over = λ _ n asked. f.over n (had n asked);
     }
-  where
-    acked : length text + 25 ≤ room → wish.ack_due ≡ true → AcksAll old (seen_all f.so_far.content.frames)
-    acked left due = elim (f.so_far.ack due) [ inl full ↦ absurd (omega (arith, left, full)) | inr all ↦ all ]
 
 -- no stream is asked for
 pub had_none : (want : Fill) (first at : ℕ) → want.streams ≡ false → (n : ℕ) → IsAsked want n → HadTurn false first at n
@@ -389,10 +319,6 @@ had_none want first at none n asked = absurd (true≢false (sym asked.0 ∙ none
 -- one alone is
 pub had_one : (want : Fill) → want.alone ≡ true → (n : ℕ) → IsAsked want n → HadTurn false want.first (want.first + 1) n
 had_one want alone n asked = elim asked.1 [ inl all ↦ absurd (true≢false (sym alone ∙ all)) | inr is ↦ (omega (arith, is), omega (arith, is)) ]
-
--- all are
-pub had_all : (first n : ℕ) → HadTurn true first first n
-had_all first n = elim (cases_lt n first) [ inl lt ↦ inr lt | inr ge ↦ inl ge ]
 
 pub all_asked : (want : Fill) → want.streams ≡ true → want.alone ≡ false → (n : ℕ) → IsAsked want n
 all_asked want some all n = (some, inl all)
@@ -403,73 +329,35 @@ pub end_chunk : (t : Limits) (recvs : Tables RecvLane) (o : Outgoing) (e : End) 
 unfolding frame_put
 end_chunk t recvs o e n c bytes count = ap (λ k. end_by t recvs (chunk_put n (record { offset = c.offset; len = k; fin = c.fin }) o) e) (sym count)
 
-pub lane_there : (o : Outgoing) (n : ℕ) (s : Sending) → HasSending o n s → or_none (lookup o.sends n) ≡ s.lane
-lane_there o n s h = ap or_none h.lane
+bytes_there : (o : Outgoing) (n : ℕ) (s : Sending) → HasSending o n s → (c : Chunk) → bytes_of (or_none (lookup o.sends n)) c ≡ bytes_of s.lane c
+bytes_there o n s h c = ap (λ l. bytes_of (or_none l) c) h.lane
 
-pub chunking_put : (around : Bool) (first : ℕ) (t : Limits) (recvs : Tables RecvLane) (o o' : Outgoing) (e : End) (quota rest : ℕ) (wish : Wish) (room : ℕ) (old : End) (before after : List ℕ) (len end n : ℕ) (c : Chunk) (left fresh : ℕ) (s : Sending) →
-    o' ≡ chunk_put n c o → HasSending o n s → IsNextChunk s left fresh c → HasBytes s.lane c → len ≤ length before → room ≡ length before → left ≡ length before - len → fresh ≡ t.known_data - sent_sum o.sends →
+pub chunking_put : (around : Bool) (first : ℕ) (t : Limits) (recvs : Tables RecvLane) (o o' : Outgoing) (e : End) (quota rest : ℕ) (wish : Wish) (room : ℕ) (old : End) (before after : List ℕ) (len end n : ℕ) (c : Chunk) (left fresh : ℕ) →
+    Found o n left fresh c → o' ≡ chunk_put n c o → len ≤ length before → room ≡ length before → left ≡ length before - len → fresh ≡ t.known_data - sent_sum o.sends →
     length (bytes_of (or_none (lookup o.sends n)) c) ≡ c.len → rest + c.len ≡ quota → take end after ≡ take len before ++ canonical (stream_frame o n c) →
     Chunking wish room old (take len before) (end_by t recvs o e) quota around first n → Chunking wish room old (take end after) (end_by t recvs o' e) rest around first n
-chunking_put around first t recvs o o' e quota rest wish room old before after len end n c left fresh s is h next has within at left_is fresh_is count split text k =
-    let there = end_by t recvs o e in
+chunking_put around first t recvs o o' e quota rest wish room old before after len end n c left fresh (s, h, (next, has)) is within at left_is fresh_is count split text k =
     let len_is : length (take len before) ≡ len = length-take-le len before within in
-    let same : room - length (take len before) ≡ left = omega (arith, len_is, at, left_is) in
-    let now : IsNextChunk s (room - length (take len before)) (there.known_data - all_sent there) c = subst (λ f. IsNextChunk s (room - length (take len before)) f c) fresh_is (subst (λ r. IsNextChunk s r fresh c) (sym same) next) in
-    let bytes : List ℕ = bytes_of (or_none (lookup o.sends n)) c in
-    let told : bytes ≡ bytes_of s.lane c = ap (λ l. bytes_of l c) (lane_there o n s h) in
-    rw (text, is, end_chunk t recvs o e n c bytes count) (chunking_next wish room old (take len before) there quota around first n k s (ties_of t recvs o e n s h) (omega (arith, len_is, at, within)) c now.allowed has bytes told count now rest split)
+    let same : left ≡ room - length (take len before) = omega (arith, len_is, at, left_is) in
+    let now = rw (same, fresh_is) at next in
+    let bytes = bytes_of (or_none (lookup o.sends n)) c in
+    rw (text, is, end_chunk t recvs o e n c bytes count) (chunking_next wish room old (take len before) (end_by t recvs o e) quota around first n k s (ties_of t recvs o e n s h) (omega (arith, len_is, at, within)) c now.allowed has bytes (bytes_there o n s h c) count now rest split)
 
--- there is one half of each stream
-pub one_half : (e : End) (n : ℕ) (s s' : Sending) → Ties e n s → Ties e n s' → s ≡ s'
-one_half e n s s' t t' = same_parts s s' lane offsets fin
-  where
-    lane : s.lane ≡ s'.lane
-    lane = same_Some s.lane s'.lane (sym t.lane ∙ t'.lane)
-
-    offsets : s.due.offsets ≡ s'.due.offsets
-    offsets = same_numbers s.due.offsets s'.due.offsets (λ q. same_truth _ _ (λ is. t'.all_due q (subst (λ l. IsDue e n l q) lane (t.due q is))) (λ is. t.all_due q (subst (λ l. IsDue e n l q) (sym lane) (t'.due q is))))
-
-    fin : s.due.fin ≡ s'.due.fin
-    fin = same_truth _ _ (λ is. t'.end_all (subst (IsEndDue e n) lane (t.end is))) (λ is. t.end_all (subst (IsEndDue e n) (sym lane) (t'.end is)))
-
-    same_parts : (a b : Sending) → a.lane ≡ b.lane → a.due.offsets ≡ b.due.offsets → a.due.fin ≡ b.due.fin → a ≡ b
-    same_parts a b lane offsets fin = λ i. record { lane = lane i; due = record { offsets = offsets i; fin = fin i } }
-
-pub flow_ends : (around : Bool) (first : ℕ) (t : Limits) (recvs : Tables RecvLane) (o : Outgoing) (e : End) (quota : ℕ) (wish : Wish) (room : ℕ) (old : End) (before : List ℕ) (len n left fresh : ℕ) (s s' : Sending) (full : Bool) →
-    HasSending o n s → HasNoChunk s left fresh → HasSending o n s' → IsTrue full ↔ IsHeldByRoom s' left fresh → len ≤ length before → room ≡ length before → left ≡ length before - len → fresh ≡ t.known_data - sent_sum o.sends →
+pub flow_ends : (around : Bool) (first : ℕ) (t : Limits) (recvs : Tables RecvLane) (o : Outgoing) (e : End) (quota : ℕ) (wish : Wish) (room : ℕ) (old : End) (before : List ℕ) (len n left fresh : ℕ) (full : Bool) →
+    ((s : Sending) × HasSending o n s × HasNoChunk s left fresh) → ((s : Sending) × HasSending o n s × (IsTrue full ↔ IsHeldByRoom s left fresh)) → len ≤ length before → room ≡ length before → left ≡ length before - len → fresh ≡ t.known_data - sent_sum o.sends →
     Chunking wish room old (take len before) (end_by t recvs o e) quota around first n → Flow wish room old (take len before) (end_by t recvs o e) quota full (turn_at around first (n + 1))
-flow_ends around first t recvs o e quota wish room old before len n left fresh s s' full h none h' held within at left_is fresh_is k = go full refl
+flow_ends around first t recvs o e quota wish room old before len n left fresh full (s, h, none) (x, g, held) within at left_is fresh_is k =
+    let len_is : length (take len before) ≡ len = length-take-le len before within in
+    let room_is : left ≡ room - length (take len before) = omega (arith, len_is, at, left_is) in
+    let same : x ≡ s = one_half (end_by t recvs o e) n x s (ties_of t recvs o e n x g) (ties_of t recvs o e n s h) in
+    go full (rw (room_is, fresh_is) at none) (rw (same, room_is, fresh_is) at held) (omega (arith, len_is, at, within))
   where
     there : End
     there = end_by t recvs o e
 
-    tied : Ties there n s
-    tied = ties_of t recvs o e n s h
-
-    len_is : length (take len before) ≡ len
-    len_is = length-take-le len before within
-
-    room_is : left ≡ room - length (take len before)
-    room_is = omega (arith, len_is, at, left_is)
-
-    fits : length (take len before) ≤ room
-    fits = omega (arith, len_is, at, within)
-
-    now : HasNoChunk s (room - length (take len before)) (there.known_data - all_sent there)
-    now = subst (λ f. HasNoChunk s (room - length (take len before)) f) fresh_is (subst (λ r. HasNoChunk s r fresh) room_is none)
-
-    same : s' ≡ s
-    same = one_half there n s' s (ties_of t recvs o e n s' h') tied
-
-    held_now : IsHeldByRoom s' left fresh → IsHeldByRoom s (room - length (take len before)) (there.known_data - all_sent there)
-    held_now x = subst (λ f. IsHeldByRoom s (room - length (take len before)) f) fresh_is (subst (λ r. IsHeldByRoom s r fresh) room_is (subst (λ y. IsHeldByRoom y left fresh) same x))
-
-    held_then : IsHeldByRoom s (room - length (take len before)) (there.known_data - all_sent there) → IsHeldByRoom s' left fresh
-    held_then x = subst (λ y. IsHeldByRoom y left fresh) (sym same) (subst (λ r. IsHeldByRoom s r fresh) (sym room_is) (subst (λ f. IsHeldByRoom s (room - length (take len before)) f) (sym fresh_is) x))
-
-    go : (b : Bool) → full ≡ b → Flow wish room old (take len before) there quota b (turn_at around first (n + 1))
-    go true is = chunking_full wish room old (take len before) there quota around first n k s tied fits now (held_now (held.0 is))
-    go false is = chunking_ends wish room old (take len before) there quota around first n k s tied fits ((held_by_room_or_limits s (room - length (take len before)) (there.known_data - all_sent there) tied.lawful now).1 (λ x. true≢false (sym (held.1 (held_then x)) ∙ is)) 25)
+    go : (b : Bool) → HasNoChunk s (room - length (take len before)) (there.known_data - all_sent there) → IsTrue b ↔ IsHeldByRoom s (room - length (take len before)) (there.known_data - all_sent there) → length (take len before) ≤ room → Flow wish room old (take len before) there quota b (turn_at around first (n + 1))
+    go true none held fits = chunking_full wish room old (take len before) there quota around first n k s (ties_of t recvs o e n s h) fits none (held.0 refl)
+    go false none held fits = chunking_ends wish room old (take len before) there quota around first n k s (ties_of t recvs o e n s h) fits ((held_by_room_or_limits s (room - length (take len before)) (there.known_data - all_sent there) h.lawful none).1 (λ x. true≢false (sym (held.1 x))) 25)
 
 -- the packet is full, as no frame of a stream fits any more
 pub flow_few : (around : Bool) (first next : ℕ) (e : End) (quota : ℕ) (wish : Wish) (room : ℕ) (old : End) (before : List ℕ) (len n : ℕ) → len ≤ length before → room ≡ length before → length before - len < 25 →
@@ -478,15 +366,14 @@ flow_few around first next e quota wish room old before len n within at few k =
     record { content = k.so_far.content; whole = λ left. absurd (omega (arith, few, left, at, length-take-le len before within)) }
 
 -- the sum of the sent ends stays within the credit
-pub sum_within : (o : Outgoing) (n : ℕ) (s : Sending) (c : Chunk) (left fresh known : ℕ) → HasSending o n s → IsAllowed s left fresh c → fresh ≡ known - sent_sum o.sends → sent_sum o.sends ≤ known → sent_sum (chunk_put n c o).sends ≤ known
-sum_within o n s c left fresh known h next is le = subst (λ x. sent_sum (updated o.sends n (λ l. sent_lane l c) x) ≤ known) (sym h.lane) (omega (arith, total_update (λ l. l.sent_end) o.sends n s.lane (sent_lane s.lane c) h.lane, next.within_credit, is, le))
+pub sum_within : (o : Outgoing) (n : ℕ) (c : Chunk) (left fresh known : ℕ) → Allowed o n left fresh c → fresh ≡ known - sent_sum o.sends → sent_sum o.sends ≤ known → sent_sum (chunk_put n c o).sends ≤ known
+sum_within o n c left fresh known (s, h, (next, has)) is le = rw h.lane (omega (arith, total_update (λ l. l.sent_end) o.sends n s.lane (sent_lane s.lane c) h.lane, next.within_credit, is, le))
+
+pub sum_small : (o : Outgoing) (n : ℕ) (c : Chunk) (left fresh known : ℕ) → Allowed o n left fresh c → fresh ≡ known - sent_sum o.sends → sent_sum o.sends ≤ known → known ≤ MAX_VARINT → sent_sum (on_lane n (λ l. sent_lane l c) o).sends ≤ MAX_VARINT
+sum_small o n c left fresh known a is le small = (let k : sent_sum (on_lane n (λ l. sent_lane l c) o).sends ≤ known = sum_within o n c left fresh known a is le in omega (arith, k, small))
 
 pub still_open : (o : Outgoing) (n : ℕ) (s : Sending) (c : Chunk) → HasSending o n s → is_some (lookup (chunk_put n c o).sends n) ≡ true
-still_open o n s c h = subst (λ x. is_some (lookup (updated o.sends n (λ l. sent_lane l c) x) n) ≡ true) (sym h.lane) (ap is_some (lookup_same o.sends n s.lane (sent_lane s.lane c) h.lane))
-
-pub flow_begins : (wish : Wish) (room : ℕ) (old : End) (text : List ℕ) (e : End) (quota : ℕ) (b : Bool) (around : Bool) (first n : ℕ) → b ≡ false → IsAsked wish.want n → IsOnWay around first n → Flow wish room old text e quota b (turn_at around first n) → Chunking wish room old text e quota around first n
-flow_begins wish room old text e quota true around first n is asked on f = absurd (true≢false is)
-flow_begins wish room old text e quota false around first n is asked on f = chunking_begins wish room old text e quota around first n asked on f
+still_open o n s c h = rw h.lane (ap is_some (lookup_same o.sends n s.lane (sent_lane s.lane c) h.lane))
 
 pub two : (t v : ℕ) (rest : List ℕ) → 2 ≤ length (short t ++ (short v ++ rest))
 two t v rest = omega (arith, length-append (short t) (short v ++ rest), length-append (short v) rest, short_positive t, short_positive v)
@@ -500,18 +387,85 @@ stream_some n offset fin bytes = two _ n _
 pub frame_size : (n : ℕ) (c : Chunk) (bytes : List ℕ) → length bytes ≡ c.len → length (canonical (stream n c.offset c.fin bytes)) ≡ frame_len n c.offset c.len
 frame_size n c bytes count = sym (frame_len_is_canonical n c.offset c.fin bytes) ∙ ap (frame_len n c.offset) count
 
-pub may_go : (o : Outgoing) (n : ℕ) (s : Sending) (c : Chunk) (left fresh : ℕ) → HasSending o n s → IsAllowed s left fresh c → HasBytes s.lane c → MayGo o n c left
-may_go o n s c left fresh h next has = record { half = s; there = h; chunk = next.chunk; has = has; fits = omega (arith, next.fits, ap (λ m. frame_len m c.offset c.len) h.tied.id) }
+pub may_go : (o : Outgoing) (n : ℕ) (c : Chunk) (left fresh : ℕ) → Allowed o n left fresh c → MayGo o n c left
+may_go o n c left fresh (s, h, (next, has)) = record { half = s; there = h; chunk = next.chunk; has = has; fits = omega (arith, next.fits, ap (λ m. frame_len m c.offset c.len) h.tied.id) }
 
-pub sum_small : (o : Outgoing) (n : ℕ) (s : Sending) (c : Chunk) (left fresh known : ℕ) → HasSending o n s → IsAllowed s left fresh c → fresh ≡ known - sent_sum o.sends → sent_sum o.sends ≤ known → known ≤ MAX_VARINT → sent_sum (on_lane n (λ l. sent_lane l c) o).sends ≤ MAX_VARINT
-sum_small o n s c left fresh known h next is le small = (let k : sent_sum (on_lane n (λ l. sent_lane l c) o).sends ≤ known = sum_within o n s c left fresh known h next is le in omega (arith, k, small))
+-- The chunk that would pass the cap of bytes is cut, and nothing more goes in.
 
-pub flow_none : (wish : Wish) (room : ℕ) (old : End) (text : List ℕ) (e : End) (quota : ℕ) (b : Bool) (around : Bool) (first n : ℕ) → is_some (send_lane e n) ≡ false → Flow wish room old text e quota b (turn_at around first n) → Flow wish room old text e quota b (turn_at around first (n + 1))
-flow_none wish room old text e quota true around first n none f = f
-flow_none wish room old text e quota false around first n none f = flow_absent wish room old text e quota around first n (none_is (send_lane e n) none) f
+-- the first bytes of a chunk
+abbrev pub cut : Chunk → ℕ → Chunk
+cut c bytes = record { offset = c.offset; len = bytes; fin = false }
 
--- a packet that is full needs no more
-pub flow_whole : (wish : Wish) (room : ℕ) (old : End) (text : List ℕ) (e : End) (quota : ℕ) (b : Bool) (around : Bool) (first n : ℕ) → b ≡ true → Flow wish room old text e quota b (turn_at around first n) → Flow wish room old text e quota b (way_end around first)
-flow_whole wish room old text e quota true false first n is f = f
-flow_whole wish room old text e quota true true first n is f = f
-flow_whole wish room old text e quota false around first n is f = absurd (true≢false (sym is))
+longer_frame : (id offset n m : ℕ) → n ≤ m → frame_len id offset n ≤ frame_len id offset m
+longer_frame id offset n m le = (let more = short_len-more n m le in omega (arith, le, more))
+
+-- they may go where all of it may
+pub cut_allowed : (s : Sending) (c : Chunk) (room fresh bytes : ℕ) → IsAllowed s room fresh c → HasBytes s.lane c → 0 < bytes → bytes < c.len → IsAllowed s room fresh (cut c bytes)
+cut_allowed s c room fresh bytes a has some less =
+    record {
+      chunk = record {
+        due = λ q ge lt. a.chunk.due q ge (omega (arith, lt, less));
+        lowest = a.chunk.lowest;
+        within_limit = omega (arith, a.chunk.within_limit, less);
+        fin = (let last = has.end in grind (arith, nat_tests, last, less));
+        some = grind (arith, nat_tests, some);
+      };
+      within_credit = omega (arith, a.within_credit, less);
+      fits = omega (arith, a.fits, longer_frame s.lane.id c.offset bytes c.len (omega (arith, less)));
+    }
+
+cut_both : (s : Sending) (c d : Chunk) (room fresh bytes : ℕ) → IsAllowed s room fresh c → HasBytes s.lane c → d ≡ cut c bytes → 0 < bytes → bytes < c.len → IsAllowed s room fresh d × HasBytes s.lane d
+cut_both s c d room fresh bytes a has is some less = rw is (cut_allowed s c room fresh bytes a has some less, record { no_reset = has.no_reset; from = has.from; end = omega (arith, has.end, less) })
+
+-- so what was found may be cut
+pub cut_part : (o : Outgoing) (n : ℕ) (c d : Chunk) (left fresh bytes : ℕ) → Found o n left fresh c → d ≡ cut c bytes → 0 < bytes → bytes < c.len → Allowed o n left fresh d
+cut_part o n c d left fresh bytes (s, h, (next, has)) is some less = (s, h, cut_both s c d left fresh bytes next.allowed has is some less)
+
+-- the stream has more bytes that may go
+pub cut_goes : (e : End) (n : ℕ) (s : Sending) (t : Ties e n s) (c d : Chunk) (room : ℕ) (allowed : IsAllowed s room (e.known_data - all_sent e) c) (chunk : IsDueChunk s d) (bytes : List ℕ) (count : length bytes ≡ d.len) → d.offset ≡ c.offset → d.len < c.len
+    → BytesGo (frame_put (Stream n d.offset bytes d.fin) e) n
+cut_goes e n s t c d room allowed chunk bytes count at less = (sent_lane s.lane d, then.lane, (next, due_is _ n (after_sent s d) then.tied then.lawful next there, omega (arith, allowed.chunk.within_limit, at, less), credit))
+  where
+    then : Ties (frame_put (Stream n d.offset bytes d.fin) e) n (after_sent s d)
+    then = ties_sent e n s t d chunk bytes count
+
+    next : ℕ
+    next = d.offset + d.len
+
+    there : set.contains (after_sent s d).due.offsets next ≡ true
+    there = (let was = allowed.chunk.due next (omega (arith, at)) (omega (arith, at, less)) in grind (arith, nat_tests, was, contains-without_range s.due.offsets d.offset (d.offset + d.len) (d.offset + d.len)))
+
+    credit : (next < (sent_lane s.lane d).sent_end) ⊎ ((next ≡ (sent_lane s.lane d).sent_end) × (all_sent (frame_put (Stream n d.offset bytes d.fin) e) < (frame_put (Stream n d.offset bytes d.fin) e).known_data))
+    credit = elim (cases_lt next s.lane.sent_end) [
+      | inl lt ↦ inl (omega (arith, lt))
+      | inr ge ↦ inr (omega (arith, ge), omega (arith, ge, at, less, allowed.within_credit, chunk_sum e n s t d chunk bytes count, chunk_known e n s t d chunk bytes count))
+    ]
+
+-- Over the parts of an end
+
+pub flow_capped : (around : Bool) (first next : ℕ) (t : Limits) (recvs : Tables RecvLane) (o : Outgoing) (e : End) (quota : ℕ) (wish : Wish) (room : ℕ) (old : End) (before : List ℕ) (len n : ℕ) (c : Chunk) (left fresh : ℕ) →
+    Found o n left fresh c → fresh ≡ t.known_data - sent_sum o.sends → quota < c.len → quota ≡ 0 → len ≤ length before → room ≡ length before →
+    Chunking wish room old (take len before) (end_by t recvs o e) quota around first n → Flow wish room old (take len before) (end_by t recvs o e) 0 true (turn_at around first next)
+flow_capped around first next t recvs o e quota wish room old before len n c left fresh (s, h, (found, has)) fresh_is past none within at k =
+    let there = end_by t recvs o e in
+    let tied = ties_of t recvs o e n s h in
+    let now = rw fresh_is at found.allowed in
+    chunking_none wish room old (take len before) there quota around first n k s tied (omega (arith, length-take-le len before within, at, within)) none (s.lane, tied.lane, byte_of there n s tied c now.chunk now.within_credit (omega (arith, past)))
+
+pub flow_cut : (around : Bool) (first turn : ℕ) (t : Limits) (recvs : Tables RecvLane) (o o' : Outgoing) (e : End) (quota : ℕ) (wish : Wish) (room : ℕ) (old : End) (before after : List ℕ) (len end n : ℕ) (c d : Chunk) (left fresh : ℕ) →
+    Found o n left fresh c → o' ≡ chunk_put n d o → d ≡ cut c quota → 0 < quota → quota < c.len → len ≤ length before → room ≡ length before → left ≡ length before - len → fresh ≡ t.known_data - sent_sum o.sends →
+    length (bytes_of (or_none (lookup o.sends n)) d) ≡ d.len → take end after ≡ take len before ++ canonical (stream_frame o n d) →
+    Chunking wish room old (take len before) (end_by t recvs o e) quota around first n → Flow wish room old (take end after) (end_by t recvs o' e) 0 true (turn_at around first turn)
+flow_cut around first turn t recvs o o' e quota wish room old before after len end n c d left fresh (s, h, (next, has)) put is some past within at left_is fresh_is count text k =
+    let there = end_by t recvs o e in
+    let tied = ties_of t recvs o e n s h in
+    let len_is : length (take len before) ≡ len = length-take-le len before within in
+    let same : left ≡ room - length (take len before) = omega (arith, len_is, at, left_is) in
+    let now = rw (same, fresh_is) at next in
+    let part = cut_both s c d (room - length (take len before)) (there.known_data - all_sent there) quota now.allowed has is some past in
+    let bytes = bytes_of (or_none (lookup o.sends n)) d in
+    let begin : d.offset ≡ c.offset = ap (λ (x : Chunk). x.offset) is in
+    let all : d.len ≡ quota = ap (λ (x : Chunk). x.len) is in
+    rw (text, put, end_chunk t recvs o e n d bytes count)
+    (chunking_cut wish room old (take len before) there quota around first n k s tied (omega (arith, len_is, at, within)) d part.0 part.1 bytes (bytes_there o n s h d) count all
+    (cut_goes there n s tied c d (room - length (take len before)) now.allowed part.0.chunk bytes count begin (omega (arith, all, past))))

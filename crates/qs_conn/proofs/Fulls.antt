@@ -1,5 +1,5 @@
 -- Words of which each index is marked: one changes, or more are opened.
-use Rattle.std.proofs.Common.{◌≡◌, ℕ, ◌+◌, ◌-◌, ◌*◌, ◌/◌, ◌^◌, ◌<◌, ◌≤◌, ◌==◌, ◌⊎◌, Bool, true, false, List, ◌++◌, Option, None, Some, w64, refl, Result, Ok, Err, length, replicate, sym, ap, ◌∙◌, subst, inl, inr, arith}
+use Rattle.std.proofs.Common.{◌≡◌, ℕ, ◌+◌, ◌-◌, ◌*◌, ◌/◌, ◌^◌, ◌<◌, ◌≤◌, ◌==◌, Bool, true, false, List, ◌++◌, Option, None, Some, w64, refl, Result, Ok, Err, length, replicate, sym, ap, ◌∙◌, subst, inl, inr, arith}
 use Rattle.std.specs.Result.{OnOk, OnErr}
 use Rattle.std.specs.Option.{unwrap_or}
 use Rattle.std.specs.Int.{bit_at, bit_not}
@@ -33,26 +33,15 @@ module _ {A E : Type 0} (r : Result A E) (marks full marks_now full_now : List B
       go (Err e) ok err = rw err record { room = omega (arith, room 0 (omega arith)); all = all }
 
 -- one mark is set or taken away, and its word's flag with it
-module _ (marks full marks_now full_now : List Bool) (i : ℕ) (b whole : Bool) (are : AreFull marks full) (there : i < length marks) (is : marks_now ≡ set marks i b) (looked : whole ≡ true → HasAllMarks marks_now (i / 64)) (flags_are : full_now ≡ set full (i / 64) whole) where
-  here : (word : ℕ) → word ≡ i / 64 → is_marked full_now word ≡ true → HasAllMarks marks_now word
-  here word e set_now =
-      let yes : whole ≡ true = sym (get_or-set_at full (i / 64) word whole false e (omega (arith, there, are.room))) ∙ ap (λ xs. is_marked xs word) (sym flags_are) ∙ set_now in
-      subst (HasAllMarks marks_now) (sym e) (looked yes)
-
-  other : (word : ℕ) → (word ≡ i / 64 → ⊥) → is_marked full_now word ≡ true → HasAllMarks marks_now word
-  other word not_here set_now j at =
-      ap (λ xs. is_marked xs j) is ∙ get_or-set_other marks i j b false (λ e. not_here (sym at ∙ ap (λ n. n / 64) e)) ∙ are.all word (sym (get_or-set_other full (i / 64) word whole false not_here) ∙ ap (λ xs. is_marked xs word) (sym flags_are) ∙ set_now) j at
-
-  pub full_set : AreFull marks_now full_now
-  full_set =
-      record {
-        room = omega (arith, are.room, ap length is, length-set marks i b, ap length flags_are, length-set full (i / 64) whole);
-        all = λ word set_now.
-            elim (cases_lt word (i / 64)) [
-              | inl lt ↦ other word (λ e. omega (arith, lt, e)) set_now
-              | inr ge ↦ elim (cases_lt (i / 64) word) [ inl lt ↦ other word (λ e. omega (arith, lt, e)) set_now | inr le ↦ here word (omega (arith, ge, le)) set_now ]
-            ];
-      }
+full_set : (marks full marks_now full_now : List Bool) (i : ℕ) (b whole : Bool) → AreFull marks full → i < length marks → marks_now ≡ set marks i b → (whole ≡ true → HasAllMarks marks_now (i / 64)) → full_now ≡ set full (i / 64) whole → AreFull marks_now full_now
+full_set marks full marks_now full_now i b whole are there is looked flags_are =
+    record {
+      room = omega (arith, are.room, ap length is, length-set marks i b, ap length flags_are, length-set full (i / 64) whole);
+      all = λ word yes j at. elim (cases_eq word (i / 64)) [
+        | inl here ↦ grind (arith, get_or-set_at full (i / 64) word whole false, looked, are.room)
+        | inr other ↦ grind (arith, get_or-set_other full (i / 64) word whole false, get_or-set_other marks i j b false, are.all word)
+      ];
+    }
 
 -- each index of that word is marked now
 pub full_here : (marks full marks_now full_now : List Bool) (i w : ℕ) (b : Bool) → AreFull marks full → i < length marks → marks_now ≡ set marks i b → IsWordOf marks_now (i / 64) w → w ≡ 2 ^ 64 - 1 → full_now ≡ set full (i / 64) (w == 2 ^ 64 - 1)
@@ -66,16 +55,12 @@ pub below_opened : (full : List Bool) (n first : ℕ) → AreMarkedBelow full fi
 below_opened full n first below i lt = padded full n i false ∙ below i lt
 
 module _ (full : List Bool) (word : ℕ) (there : word < length full) where
-  flagged : (i : ℕ) → (i ≡ word → ⊥) ⊎ (i ≡ word) → ((i ≡ word → ⊥) → is_marked full i ≡ true) → is_marked (set full word true) i ≡ true
-  flagged i (inl other) old = get_or-set_other full word i true false other ∙ old other
-  flagged i (inr same) old = get_or-set_at full word i true false same there
-
   pub below_more : (first : ℕ) → AreMarkedBelow full first → AreMarkedBelow (set full word true) first
-  below_more first below i lt = flagged i (elim (cases_eq i word) [ inl same ↦ inr same | inr other ↦ inl other ]) (λ other. below i lt)
+  below_more first below i lt = grind (arith, get_or-set_at full word i true false, get_or-set_other full word i true false, below i)
 
   -- and the next one has one now
   pub below_next : AreMarkedBelow full word → AreMarkedBelow (set full word true) (word + 1)
-  below_next below i lt = flagged i (elim (cases_eq i word) [ inl same ↦ inr same | inr other ↦ inl other ]) (λ other. below i (elim (cases_lt i word) [ inl under ↦ under | inr over ↦ absurd (other (omega (arith, lt, over))) ]))
+  below_next below i lt = grind (arith, get_or-set_at full word i true false, get_or-set_other full word i true false, below i)
 
 -- below the first bit that isn't set in the first word without a flag, each is marked
 pub below_here : (marks full : List Bool) (first w : ℕ) (r : Option ℕ) → AreFull marks full → AreMarkedBelow full first → IsWordOf marks first w → w < 2 ^ 64 → IsLowestBit (bit_not w64 w) 0 r → (below : ℕ) → below ≤ first * 64 + unwrap_or r 64 → AreMarkedBelow marks below

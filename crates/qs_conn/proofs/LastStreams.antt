@@ -1,20 +1,20 @@
 -- The last STREAM frame of a packet in the making has the stream of the last chunk in its record.
 use Rattle.std.proofs.Common.{◌≡◌, ℕ, zero, suc, ◌+◌, List, [], ◌∷◌, ◌++◌, length, slice_get, Option, Some, None, refl, ap, ◌∙◌, subst, arith}
+use Rattle.std.proofs.lemmas.List.{append-nil}
 use Rattle.std.proofs.lemmas.Option.{same_Some}
 use Rattle.qs_wire.specs.LastStream.{stream_or, last_stream_of}
 use Rattle.qs_wire.specs.Layout.{FrameValue, padding}
-use Rattle.qs_send.specs.Lane.{sent_lane}
 use Rattle.qs_send.specs.declared.parts.Chunk.{Chunk}
 use Rattle.qs_send.specs.declared.piece.Piece.{Piece}
 use Rattle.qs_send.specs.declared.piece.Piece.TheVariants.{Data, Told}
-use Rattle.qs_machine.specs.Ends.{End, Records, on_send}
+use Rattle.qs_machine.specs.Ends.{End, Records}
 use Rattle.qs_machine.specs.Seen.{Seen, Stream, Control, seen, seen_all}
-use Rattle.qs_machine.specs.Lawful.{Fills, frame_put, noted, item_put, pieces_so_far, chunk_of}
+use Rattle.qs_machine.specs.Lawful.{Fills, frame_put, pieces_so_far, chunk_of}
 use Rattle.qs_machine.specs.Outgoing.{with_pending, AreBelow}
 use Rattle.qs_machine.proofs.Carried.{get_new}
 use Rattle.qs_conn.specs.Filling.{pieces_at, data_or, last_data}
 use Rattle.qs_conn.proofs.OutboxAcks.{none_above}
-use Rattle.qs_conn.proofs.Pieces.{item_out, item_next}
+use Rattle.qs_conn.proofs.Pieces.{piece_of, as_list, put_pieces}
 
 -- those of the packet in the making are the pending ones
 pub pieces_there : (m : Records) (k : ℕ) (ps : List Piece) → AreBelow m k → pieces_at (with_pending m k ps) k ≡ ps
@@ -32,22 +32,18 @@ last_at last (q ∷ []) zero n c at is = subst (λ p. Some n ≡ data_or last p)
 last_at last (q ∷ r ∷ ps) (suc i) n c at is = last_at (data_or last q) (r ∷ ps) i n c (omega (arith, at)) is
 last_at _ _ _ _ _ at _ = absurd (omega (arith, at))
 
-last_noted : (p : Piece) (e : End) → last_data None (pieces_so_far (noted p e) (noted p e).next) ≡ data_or (last_data None (pieces_so_far e e.next)) p
-last_noted p e = ap (λ (o : Option (List Piece)). last_data None (elim o [ None ↦ [] | Some qs ↦ qs ])) (get_new e.outstanding e.next (pieces_so_far e e.next ++ p ∷ [])) ∙ last_more None (pieces_so_far e e.next) p
-
 -- the stream of a STREAM frame; of another frame what was before
 abbrev seen_or : Option ℕ → Seen → Option ℕ
 seen_or last (Stream n offset bytes fin) = Some n
 seen_or last _ = last
 
 last_put : (f : Seen) (e : End) → last_data None (pieces_so_far (frame_put f e) (frame_put f e).next) ≡ seen_or (last_data None (pieces_so_far e e.next)) f
-unfolding frame_put
-last_put (Stream n offset bytes fin) e = last_noted (Data n (chunk_of offset bytes fin)) (on_send n (λ l. sent_lane l (chunk_of offset bytes fin)) e)
-last_put (Control i) e =
-    last_noted (Told i) (item_put i e)
-    ∙ ap (λ k. last_data None (pieces_at (item_put i e).outstanding k)) (item_next i e)
-    ∙ ap (λ m. last_data None (pieces_at m e.next)) (item_out i e)
-last_put _ _ = refl
+last_put f e = ap (last_data None) (put_pieces f e) ∙ go f
+  where
+    go : (f : Seen) → last_data None (pieces_so_far e e.next ++ as_list (piece_of f)) ≡ seen_or (last_data None (pieces_so_far e e.next)) f
+    go (Stream n offset bytes fin) = last_more None (pieces_so_far e e.next) (Data n (chunk_of offset bytes fin))
+    go (Control i) = last_more None (pieces_so_far e e.next) (Told i)
+    go _ = ap (last_data None) (append-nil (pieces_so_far e e.next))
 
 seen_is : (last : Option ℕ) (f : FrameValue) → seen_or last (seen f) ≡ stream_or last f
 seen_is last padding = refl

@@ -1,5 +1,5 @@
 -- Searches for the least number with a property.
-use Rattle.std.proofs.Common.{◌≡◌, ℕ, zero, suc, ◌+◌, ◌-◌, ◌*◌, ◌/◌, ◌%◌, ◌<◌, ◌≤◌, ◌^◌, ◌⊎◌, min, Bool, true, false, List, length, get_or, Option, None, Some, refl, sym, ◌∙◌, subst, arith, inl, inr}
+use Rattle.std.proofs.Common.{◌≡◌, ℕ, ◌+◌, ◌-◌, ◌*◌, ◌/◌, ◌<◌, ◌≤◌, ◌^◌, ◌⊎◌, min, Bool, true, false, List, length, get_or, Option, None, Some, refl, sym, ◌∙◌, subst, arith, inl, inr}
 use Rattle.std.specs.Option.{IfSome, IfNone}
 use Rattle.std.specs.Prelude.{option_map}
 use Rattle.std.proofs.lemmas.Bool.{cases_lt, both_ways}
@@ -17,8 +17,12 @@ least_by P from None found none = record { found = found; least = λ n le p. abs
 least_by P from (Some m) found none = record { found = found; least = λ n le p. (m, refl, elim (cases_lt n m) [ inl lt ↦ absurd (none n le lt p) | inr ge ↦ ge ]) }
 
 pub none_before : (P : ℕ → Type 0) (from : ℕ) (answer : Option ℕ) → IsLeast P from answer → (n : ℕ) → from ≤ n → IsBefore n answer → P n → ⊥
-none_before P from None h n le before p = none-some (h.least n le p).0 (h.least n le p).1
-none_before P from (Some m) h n le before p = (let l = h.least n le p in let same : m ≡ l.0 = same_Some m l.0 l.1 in omega (arith, before, same, l.2))
+none_before P from None h n le before p = grind (arith, h.least n, p)
+none_before P from (Some m) h n le before p = grind (arith, h.least n, p)
+
+-- none below a number, none up to the next one that is looked at, nor there
+pub none_next : (P : ℕ → Type 0) (from m : ℕ) → ((n : ℕ) → n < from → P n → ⊥) → ((n : ℕ) → from ≤ n → n < m → P n → ⊥) → (P m → ⊥) → (n : ℕ) → n < m + 1 → P n → ⊥
+none_next P from m below between here n lt p = grind (arith, below n, between n, here, p)
 
 -- The search over marks
 
@@ -36,7 +40,7 @@ module _ (P : ℕ → Type 0) (ms : List Bool) (none : (i : ℕ) → is_marked m
   clear_marked from next index c h =
       record {
         after = omega (arith, c.after, (h.found index refl).0);
-        none = λ i ge lt p. elim (cases_lt i next) [ inl before ↦ c.none i ge before p | inr past ↦ none i (h.unmarked i past lt) p ];
+        none = λ i ge lt p. grind (arith, c.none i, none i, h.unmarked i, p);
       }
 
   pub none_marked : (from next : ℕ) → IsClear P from next → IsNextMark ms next None → IsLeast P from None
@@ -47,7 +51,7 @@ module _ (P : ℕ → Type 0) (from index : ℕ) (c : IsClear P from index) wher
   clear_over without =
       record {
         after = omega (arith, c.after);
-        none = λ i ge lt p. elim (cases_lt i index) [ inl before ↦ c.none i ge before p | inr past ↦ (let same : i ≡ index = omega (arith, lt, past) in without (subst P same p)) ];
+        none = λ i ge lt p. grind (arith, c.none i, without, p);
       }
 
   pub least_here : P index → IsLeast P from (Some index)
@@ -62,10 +66,7 @@ least_two P Q R from a b left right parts p q = least_by R from (least_of a b) (
     found : (x y : Option ℕ) → IsLeast P from x → IsLeast Q from y → (n : ℕ) → least_of x y ≡ Some n → (from ≤ n) × R n
     found None y s t n is = (let f = t.found n is in (f.0, right n f.1))
     found (Some x) None s t n is = (let f = s.found n is in (f.0, left n f.1))
-    found (Some x) (Some y) s t n is = elim (cases_lt x y) [
-      | inl lt ↦ (let f = s.found x refl in let e : x ≡ n = omega (arith, lt, same_Some (min x y) n is) in (omega (arith, f.0, e), subst R e (left x f.1)))
-      | inr ge ↦ (let f = t.found y refl in let e : y ≡ n = omega (arith, ge, same_Some (min x y) n is) in (omega (arith, f.0, e), subst R e (right y f.1)))
-    ]
+    found (Some x) (Some y) s t n is = grind (arith, s.found x refl, t.found y refl, left x, right y, same_Some (min x y) n is)
 
 -- Streams
 
@@ -120,14 +121,7 @@ kinds_four P from a b c d p q r s =
     (least_two (OfKind P 0) (OfKind P 1) Bidi from a b (λ n x. inl x) (λ n y. inr y) (λ n h. h) p q) (least_two (OfKind P 2) (OfKind P 3) Uni from c d (λ n x. inl x) (λ n y. inr y) (λ n h. h) r s)
   where
     by_kind : (n : ℕ) → P n → (OfKind P 0 n ⊎ OfKind P 1 n) ⊎ (OfKind P 2 n ⊎ OfKind P 3 n)
-    by_kind n held = go (n % 4) refl (omega arith)
-      where
-        go : (k : ℕ) → n % 4 ≡ k → k < 4 → (OfKind P 0 n ⊎ OfKind P 1 n) ⊎ (OfKind P 2 n ⊎ OfKind P 3 n)
-        go zero e lt = inl (inl (e, held))
-        go (suc zero) e lt = inl (inr (e, held))
-        go (suc (suc zero)) e lt = inr (inl (e, held))
-        go (suc (suc (suc zero))) e lt = inr (inr (e, held))
-        go (suc (suc (suc (suc k)))) e lt = absurd (omega (arith, lt))
+    by_kind n held = grind (arith, held)
 
 -- the number of the answer is a stream's
 pub least_id : (P : ℕ → Type 0) (from : ℕ) (id r : Option ℕ) (number : ℕ) → r ≡ Some number → IfSome r (λ n. n < 2 ^ 62) → IfSome id (λ m. (m ≡ number) × (number < 2 ^ 62)) → IfNone id (2 ^ 62 ≤ number) → IsLeast P from r → IsLeast P from id

@@ -5,7 +5,6 @@ pub mod Allowed
 pub mod Asked
 pub mod Named
 pub mod Calm
-pub mod Capped
 pub mod Carrieds
 pub mod CarriedSteps
 pub mod Owns
@@ -18,7 +17,6 @@ pub mod EachItem
 pub mod FirstNews
 pub mod Flows
 pub mod Funded
-pub mod Items
 pub mod Kept
 pub mod LastStreams
 pub mod NewSettings
@@ -28,7 +26,6 @@ pub mod Halves
 pub mod Hearing
 pub mod Helds
 pub mod Rooms
-pub mod PacketOrder
 pub mod Passing
 pub mod OutboxAcks
 pub mod Over

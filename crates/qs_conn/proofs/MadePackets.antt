@@ -1,9 +1,8 @@
 -- What a call of make_packet leaves, and one of fill.
-use Rattle.std.proofs.Common.{◌≡◌, ◌≢◌, ◌↔◌, ◌||◌, Option, ℕ, zero, suc, ◌+◌, ◌-◌, ◌^◌, ◌<◌, ◌≤◌, Bool, true, false, List, [], ◌∷◌, length, take, refl, sym, ap, ◌∙◌, subst, arith, inl, inr, None, Some, is_some, nat_le}
+use Rattle.std.proofs.Common.{◌≡◌, ◌≢◌, ◌↔◌, ◌||◌, Option, ℕ, zero, suc, ◌+◌, ◌-◌, ◌^◌, ◌<◌, ◌≤◌, Bool, true, false, List, [], ◌∷◌, length, refl, sym, ap, ◌∙◌, subst, arith, inl, inr, None, Some, is_some, nat_le}
 use Rattle.std.specs.Prelude.{Ok, Err, if◌then◌else◌}
 use Rattle.std.proofs.lemmas.Bool.{true≢false}
 use Rattle.std.proofs.lemmas.Bool.Decides.{nat_tests}
-use Rattle.std.proofs.lemmas.List.{length-take-le}
 use Rattle.std.specs.List.{AllByRecursion}
 use Rattle.std.specs.FinMap as fmap
 use Rattle.qs_wire.specs.LastStream.{last_stream_of}
@@ -22,17 +21,17 @@ use Rattle.qs_machine.specs.Credit.{settle}
 use Rattle.qs_machine.specs.Seen.{Seen, Ack, Stream, Control, seen_all, asks_ack, any_asks}
 use Rattle.qs_machine.specs.Due.{Among, Sendable, StreamGoes}
 use Rattle.qs_machine.specs.Lawful.{Fills, frame_put, pieces_so_far}
-use Rattle.qs_machine.specs.Making.{NamesMost, IsMade, MakeAt, MakeStep, make_refusal}
+use Rattle.qs_machine.specs.Making.{NamesMost, IsMade, MakeStep, make_refusal}
 use Rattle.qs_machine.specs.Alone.{token_of}
-use Rattle.qs_machine.specs.Filling.{IsAsked, IsWanted, WantedGoes, HasWanted, GoesWithin, still_asked, IsFilled, FillAt, FillStep}
+use Rattle.qs_machine.specs.Filling.{IsAsked, IsWanted, WantedGoes, HasWanted, GoesWithin, still_asked, IsFilled, FillStep}
 use Rattle.qs_machine.specs.InOrder.{AreInOrder, NothingStarves, NoItemStarves}
 use Rattle.qs_machine.specs.Outgoing.{Outgoing}
 use Rattle.qs_conn.specs.declared.middle.Core.{Core}
 use Rattle.qs_conn.specs.Middle.{end_of}
-use Rattle.qs_conn.specs.Filling.{InPacket, pieces_at, last_data, end_by, Packed, PackedBy, IsWished, HasWished, IsAckLeft}
+use Rattle.qs_conn.specs.Filling.{InPacket, pieces_at, last_data, end_by, PackedBy, IsWished, IsAckLeft}
 use Rattle.qs_conn.proofs.LastStreams.{last_filled}
-use Rattle.qs_conn.proofs.Pieces.{put_next}
-use Rattle.qs_conn.proofs.Stages.{packed_same, packed_none, packed_asks, packed_made, packed_some, goes_same, goes_alone}
+use Rattle.qs_conn.proofs.Pieces.{put_next, goes_less}
+use Rattle.qs_conn.proofs.Stages.{packed_same, packed_none, packed_asks, packed_made, packed_some, goes_next, goes_alone}
 use Rattle.qs_conn.proofs.Flows.{within_goes}
 
 -- Refusals
@@ -41,7 +40,7 @@ exhausted : (v : End) → is_some v.closed ≡ false → MAX_VARINT < v.next →
 exhausted v clear past = (let test : nat_le (MAX_VARINT + 1) v.next ≡ true = grind (arith, nat_tests, past) in rw (clear, test) refl)
 
 pub make_exhausted : (v old : End) (first delay room : ℕ) → v ≡ old → is_some v.closed ≡ false → MAX_VARINT < v.next → MakeStep old first delay room (Err making.Exhausted) [] old
-make_exhausted v old first delay room same clear past = subst (λ e. MakeStep e first delay room (Err making.Exhausted) [] e) same (subst (λ r. MakeAt r v first delay room (Err making.Exhausted) [] v) (sym (exhausted v clear past)) (refl, refl, refl))
+make_exhausted v old first delay room same clear past = subst (λ e. MakeStep e first delay room (Err making.Exhausted) [] e) same (rw (exhausted v clear past) (refl, refl, refl))
 
 pub no_refusal : (v : End) → is_some v.closed ≡ false → v.next ≤ MAX_VARINT → make_refusal v ≡ None
 no_refusal v clear le = (let test : nat_le (MAX_VARINT + 1) v.next ≡ false = grind (arith, nat_tests, le) in rw (clear, test) refl)
@@ -64,37 +63,31 @@ outgoing_of spare v = record { sends = v.sends; next = v.next; outstanding = v.o
 abbrev pub all_of : (first delay : ℕ) → Bool → Wish
 all_of first delay due = record { want = record { items = true; streams = true; first = first; alone = false; most_bytes = 2 ^ 64 - 1 }; delay = delay; ack_due = due }
 
-ack_left : (due : Bool) → IsAckLeft due due false
+pub ack_left : (due : Bool) → IsAckLeft due due false
 ack_left true = (refl, refl)
 ack_left false = refl
 
--- the call filled a packet
-module _ (v : End) (c new_c : Core) (wish : Wish) (room len quota : ℕ) (is_full : Bool) (out : List ℕ) (left : Bool) (idle : fmap.get v.outstanding v.next ≡ None) (parts : end_of c v ≡ v) (goes : IsAckLeft wish.ack_due v.ack_due left)
-    (fills : (x : End) (b : Bool) → end_of c x ≡ x → x.done ≡ v.done → IsAckLeft wish.ack_due x.ack_due b → ((p : Piece) → InPacket x p → ⊥) → PackedBy wish.want.first wish room x (take len out) (end_of new_c (record x { ack_due = b })) quota is_full) where
+-- a call that began as v filled a packet
+pub packed_by : (v old : End) → v ≡ old → (c new_c : Core) (first : ℕ) (wish : Wish) (room : ℕ) (text : List ℕ) (quota : ℕ) (full left : Bool) → fmap.get v.outstanding v.next ≡ None → end_of c v ≡ v → IsAckLeft wish.ack_due v.ack_due left
+    → ((x : End) (b : Bool) → end_of c x ≡ x → x.done ≡ v.done → IsAckLeft wish.ack_due x.ack_due b → ((p : Piece) → InPacket x p → ⊥) → PackedBy first wish room x text (end_of new_c (record x { ack_due = b })) quota full)
+    → PackedBy first wish room v text (end_of new_c (record v { ack_due = left })) quota full
+packed_by v old same c new_c first wish room text quota full left idle parts goes fills = fills v left parts refl goes (fresh_of v idle)
+
+module _ (v : End) (new_c : Core) (left : Bool) (first : ℕ) (wish : Wish) (room : ℕ) (text : List ℕ) (quota : ℕ) (full : Bool) (p : PackedBy first wish room v text (end_of new_c (record v { ack_due = left })) quota full) where
   abbrev pub filled : End
   filled = end_of new_c (record v { ack_due = left })
 
-  pub packed_by : PackedBy wish.want.first wish room v (take len out) filled quota is_full
-  packed_by = fills v left parts refl goes (fresh_of v idle)
-
-  pub packed : Packed wish.want.first wish room v (take len out) filled quota
-  packed = packed_by.packed
-
   pub filled_next : new_c.outbox.next ≡ v.next
-  filled_next = fills_next v v filled (seen_all packed.content.frames) packed.content.fills
+  filled_next = fills_next v v filled (seen_all p.packed.content.framed.frames) p.packed.content.framed.fills
 
-  same_is : len ≡ 0 → filled ≡ v
-  same_is none = packed_same wish.want.first wish room v (take len out) filled quota packed (ap (λ k. take k out) none)
+  same_is : text ≡ [] → filled ≡ v
+  same_is none = packed_same first wish room v text filled quota p.packed none
 
-  pub same_parts : len ≡ 0 → end_of new_c v ≡ v
+  pub same_parts : text ≡ [] → end_of new_c v ≡ v
   same_parts none = ap (λ (x : End). end_by (limits_of x) x.recvs (outgoing_of 0 x) v) (same_is none)
 
-  pub idle_none : len ≡ 0 → fmap.get new_c.outbox.outstanding new_c.outbox.next ≡ None
-  idle_none none = ap (λ (x : End). fmap.get x.outstanding x.next) (same_is none) ∙ idle
-
-  -- it had nothing to send
-  pub none_goes : 25 ≤ room → len ≡ 0 → HasWished wish v [] v
-  none_goes enough none = packed_none wish.want.first wish room v (take len out) filled quota packed enough (ap (λ k. take k out) none)
+  pub idle_none : fmap.get v.outstanding v.next ≡ None → text ≡ [] → fmap.get new_c.outbox.outstanding new_c.outbox.next ≡ None
+  idle_none idle none = ap (λ (x : End). fmap.get x.outstanding x.next) (same_is none) ∙ idle
 
   -- it had some, and its number was used
   module _ (new : End) (o : Outgoing) (number : ℕ) (is : number ≡ v.next) (after : o ≡ record new_c.outbox { next = new_c.outbox.next + 1; spare = 0 }) (settled : new ≡ settle (end_of (record new_c { outbox = o }) (record v { ack_due = left }))) where
@@ -108,53 +101,43 @@ module _ (v : End) (c new_c : Core) (wish : Wish) (room len quota : ℕ) (is_ful
     pub in_order : wish.want.items ≡ true → AreInOrder v [] (pieces_so_far new number)
     in_order asked =
         let pieces : pieces_so_far new number ≡ pieces_so_far filled filled.next = ap (λ (x : End). pieces_so_far x number) end ∙ ap (pieces_so_far filled) (is ∙ sym filled_next) in
-        subst (AreInOrder v []) (sym pieces) (packed.content.order asked)
+        subst (AreInOrder v []) (sym pieces) (p.packed.content.order asked)
 
 -- `make_packet` filled it
-module _ (v old : End) (same : v ≡ old) (c new_c : Core) (first delay room len quota : ℕ) (is_full : Bool) (out : List ℕ) (idle : fmap.get v.outstanding v.next ≡ None) (parts : end_of c v ≡ v)
-    (fills : (x : End) (b : Bool) → end_of c x ≡ x → x.done ≡ v.done → IsAckLeft v.ack_due x.ack_due b → ((p : Piece) → InPacket x p → ⊥) → PackedBy first (all_of first delay v.ack_due) room x (take len out) (end_of new_c (record x { ack_due = b })) quota is_full) where
-  abbrev wish : Wish
-  wish = all_of first delay v.ack_due
-
-  pub made_next : new_c.outbox.next ≡ v.next
-  made_next = filled_next v c new_c wish room len quota is_full out false idle parts (ack_left v.ack_due) fills
-
-  pub made_idle : len ≡ 0 → fmap.get new_c.outbox.outstanding new_c.outbox.next ≡ None
-  made_idle = idle_none v c new_c wish room len quota is_full out false idle parts (ack_left v.ack_due) fills
-
+module _ (v old : End) (same : v ≡ old) (new_c : Core) (first delay room : ℕ) (text : List ℕ) (quota : ℕ) (full : Bool) (p : PackedBy first (all_of first delay v.ack_due) room v text (end_of new_c (record v { ack_due = false })) quota full)
+    (clear : is_some v.closed ≡ false) (le : v.next ≤ MAX_VARINT) where
   -- it had nothing to send
-  pub make_none : is_some v.closed ≡ false → v.next ≤ MAX_VARINT → 25 ≤ room → len ≡ 0 → MakeStep old first delay room (Ok None) [] (end_of new_c v)
-  make_none clear le enough none =
-      let w = none_goes v c new_c wish room len quota is_full out false idle parts (ack_left v.ack_due) fills enough none in
+  pub make_none : 25 ≤ room → text ≡ [] → MakeStep old first delay room (Ok None) [] (end_of new_c v)
+  make_none enough none =
+      let w = packed_none first (all_of first delay v.ack_due) room v text (filled v new_c false first (all_of first delay v.ack_due) room text quota full p) quota p.packed enough none in
       let quiet : Sendable v → ⊥ = λ goes. elim goes [ inl due ↦ (w.ack due).2 | inr (inl (i, due)) ↦ w.wanted.items refl i due | inr (inr (n, some)) ↦ w.wanted.streams n (refl, inl refl) (inl (omega arith, some)) ] in
-      subst (λ e. MakeStep e first delay room (Ok None) [] (end_of new_c v)) same (subst (λ r. MakeAt r v first delay room (Ok None) [] (end_of new_c v)) (sym (no_refusal v clear le)) (quiet, refl, same_parts v c new_c wish room len quota is_full out false idle parts (ack_left v.ack_due) fills none))
+      subst (λ e. MakeStep e first delay room (Ok None) [] (end_of new_c v)) same (rw (no_refusal v clear le) (quiet, refl, same_parts v new_c false first (all_of first delay v.ack_due) room text quota full p none))
 
   module _ (new : End) (o : Outgoing) (number : ℕ) (asks : Bool) (is : number ≡ v.next) (after : o ≡ record new_c.outbox { next = new_c.outbox.next + 1; spare = 0 }) (settled : new ≡ settle (end_of (record new_c { outbox = o }) (record v { ack_due = false }))) where
     last : new ≡ settle (record (end_of new_c (record v { ack_due = false })) { next = v.next + 1 })
-    last = end v c new_c wish room len quota is_full out false idle parts (ack_left v.ack_due) fills new o number is after settled
+    last = end v new_c false first (all_of first delay v.ack_due) room text quota full p new o number is after settled
 
     -- it had some
-    pub make_some : asks ≡ is_some (fmap.get new_c.outbox.outstanding new_c.outbox.next) → is_some v.closed ≡ false → v.next ≤ MAX_VARINT → 0 < len → len ≤ room → room ≤ 16383 → length out ≡ room
-        → MakeStep old first delay room (Ok (Some (record { number = number; len = len; is_ack_eliciting = asks }))) (take len out) new
-    make_some asked clear le some within most count =
-        let inside : length (take len out) ≡ len = length-take-le len out (omega (arith, within, count)) in
-        let full = packed v c new_c wish room len quota is_full out false idle parts (ack_left v.ack_due) fills in
-        let made = packed_some first wish room v (take len out) (end_of new_c (record v { ack_due = false })) quota full number len asks (packed_asks first wish room v (take len out) (end_of new_c (record v { ack_due = false })) quota full asks idle asked) is (sym inside) (λ none. omega (arith, some, inside, ap length none)) within refl refl (λ n. (refl, inl refl)) (omega (arith, most)) refl in
-        subst (λ e. MakeStep e first delay room (Ok (Some (record { number = number; len = len; is_ack_eliciting = asks }))) (take len out) new) same
-        (subst (λ r. MakeAt r v first delay room (Ok (Some (record { number = number; len = len; is_ack_eliciting = asks }))) (take len out) new) (sym (no_refusal v clear le)) (subst (IsMade v first delay room (record { number = number; len = len; is_ack_eliciting = asks }) (take len out)) (sym last) made))
+    pub make_some : (len : ℕ) → fmap.get v.outstanding v.next ≡ None → asks ≡ is_some (fmap.get new_c.outbox.outstanding new_c.outbox.next) → 0 < len → len ≡ length text → len ≤ room → room ≤ 16383
+        → MakeStep old first delay room (Ok (Some (record { number = number; len = len; is_ack_eliciting = asks }))) text new
+    make_some len idle asked some count within most =
+        let e = end_of new_c (record v { ack_due = false }) in
+        let wish = all_of first delay v.ack_due in
+        let made = packed_some first wish room v text e quota p.packed number len asks (packed_asks first wish room v text e quota p.packed asks idle asked) is count (λ none. omega (arith, some, count, ap length none)) within refl refl (λ n. (refl, inl refl)) (omega (arith, most)) refl in
+        subst (λ x. MakeStep x first delay room (Ok (Some (record { number = number; len = len; is_ack_eliciting = asks }))) text new) same (rw (no_refusal v clear le) (subst (IsMade v first delay room (record { number = number; len = len; is_ack_eliciting = asks }) text) (sym last) made))
 
     -- what its record holds is in order, and no ACK is due any more
-    pub make_order : NothingStarves old (Ok (Some (record { number = number; len = len; is_ack_eliciting = asks }))) new
-    make_order = (
+    pub make_order : (len : ℕ) → NothingStarves old (Ok (Some (record { number = number; len = len; is_ack_eliciting = asks }))) new
+    make_order len = (
       ap (λ (x : End). x.ack_due) last,
-      subst (λ e. AreInOrder e [] (pieces_so_far new number)) same (in_order v c new_c wish room len quota is_full out false idle parts (ack_left v.ack_due) fills new o number is after settled refl),
+      subst (λ e. AreInOrder e [] (pieces_so_far new number)) same (in_order v new_c false first (all_of first delay v.ack_due) room text quota full p new o number is after settled refl),
     )
 
 -- What is filled in
 
 -- the next number makes no difference to what goes within the cap
 within_same : (e : End) (k left first n : ℕ) → GoesWithin left first (record e { next = k }) n → GoesWithin left first e n
-within_same e k left first n (inl (some, goes)) = inl (some, goes_same (record e { next = k }) e n refl refl refl goes)
+within_same e k left first n (inl (some, goes)) = inl (some, goes_next e k n goes)
 within_same e k left first n (inr alone) = inr (goes_alone e k first n alone)
 
 -- the frames are of kinds that are asked for
@@ -215,59 +198,45 @@ names_less old delay room less (f ∷ fs) le all = (one f all.0, names_less old 
     one f is = is
 
 pub fill_exhausted : (v old : End) (want : Fill) (room : ℕ) → v ≡ old → is_some v.closed ≡ false → MAX_VARINT < v.next → FillStep old want room (Err making.Exhausted) [] old
-fill_exhausted v old want room same clear past = subst (λ e. FillStep e want room (Err making.Exhausted) [] e) same (subst (λ r. FillAt r v want room (Err making.Exhausted) [] v) (sym (exhausted v clear past)) (refl, refl, refl))
+fill_exhausted v old want room same clear past = subst (λ e. FillStep e want room (Err making.Exhausted) [] e) same (rw (exhausted v clear past) (refl, refl, refl))
 
-module _ (v old : End) (same : v ≡ old) (c new_c : Core) (want : Fill) (room len quota : ℕ) (is_full : Bool) (out : List ℕ) (idle : fmap.get v.outstanding v.next ≡ None) (parts : end_of c v ≡ v)
-    (fills : (x : End) (b : Bool) → end_of c x ≡ x → x.done ≡ v.done → IsAckLeft false x.ack_due b → ((p : Piece) → InPacket x p → ⊥) → PackedBy want.first (only_of want) room x (take len out) (end_of new_c (record x { ack_due = b })) quota is_full) where
-  abbrev by : PackedBy want.first (only_of want) room v (take len out) (end_of new_c v) quota is_full
-  by = packed_by v c new_c (only_of want) room len quota is_full out v.ack_due idle parts refl fills
-
-  abbrev full : Packed want.first (only_of want) room v (take len out) (end_of new_c v) quota
-  full = by.packed
-
-  pub fill_next : new_c.outbox.next ≡ v.next
-  fill_next = filled_next v c new_c (only_of want) room len quota is_full out v.ack_due idle parts refl fills
-
-  pub fill_idle : len ≡ 0 → fmap.get new_c.outbox.outstanding new_c.outbox.next ≡ None
-  fill_idle = idle_none v c new_c (only_of want) room len quota is_full out v.ack_due idle parts refl fills
-
+module _ (v old : End) (same : v ≡ old) (new_c : Core) (want : Fill) (room : ℕ) (text : List ℕ) (quota : ℕ) (full : Bool) (p : PackedBy want.first (only_of want) room v text (end_of new_c v) quota full)
+    (clear : is_some v.closed ≡ false) (le : v.next ≤ MAX_VARINT) where
   -- nothing that is asked for may go
-  pub fill_none : is_some v.closed ≡ false → v.next ≤ MAX_VARINT → len ≡ 0 → FillStep old want room (Ok None) [] (end_of new_c v)
-  fill_none clear le none =
-      let quiet : 25 ≤ room → HasWanted want v [] v = λ enough. (none_goes v c new_c (only_of want) room len quota is_full out v.ack_due idle parts refl fills enough none).wanted in
-      subst (λ e. FillStep e want room (Ok None) [] (end_of new_c v)) same (subst (λ r. FillAt r v want room (Ok None) [] (end_of new_c v)) (sym (no_refusal v clear le)) (quiet, refl, same_parts v c new_c (only_of want) room len quota is_full out v.ack_due idle parts refl fills none))
+  pub fill_none : text ≡ [] → FillStep old want room (Ok None) [] (end_of new_c v)
+  fill_none none =
+      let quiet : 25 ≤ room → HasWanted want v [] v = λ enough. (packed_none want.first (only_of want) room v text (end_of new_c v) quota p.packed enough none).wanted in
+      subst (λ e. FillStep e want room (Ok None) [] (end_of new_c v)) same (rw (no_refusal v clear le) (quiet, refl, same_parts v new_c v.ack_due want.first (only_of want) room text quota full p none))
 
   module _ (new : End) (o : Outgoing) (number : ℕ) (is : number ≡ v.next) (after : o ≡ record new_c.outbox { next = new_c.outbox.next + 1; spare = 0 }) (settled : new ≡ settle (end_of (record new_c { outbox = o }) v)) where
-    fill_end : new ≡ settle (record (end_of new_c v) { next = v.next + 1 })
-    fill_end = end v c new_c (only_of want) room len quota is_full out v.ack_due idle parts refl fills new o number is after settled
-
     -- what its record holds is in order
     pub fill_order : (filled : Filled) → filled.token.number ≡ number → NoItemStarves want old (Ok (Some filled)) new
-    fill_order filled token asked = subst (λ e. AreInOrder e [] (pieces_so_far new filled.token.number)) same (subst (λ k. AreInOrder v [] (pieces_so_far new k)) (sym token) (in_order v c new_c (only_of want) room len quota is_full out v.ack_due idle parts refl fills new o number is after settled asked))
+    fill_order filled token asked = subst (λ e. AreInOrder e [] (pieces_so_far new filled.token.number)) same (subst (λ k. AreInOrder v [] (pieces_so_far new k)) (sym token) (in_order v new_c v.ack_due want.first (only_of want) room text quota full p new o number is after settled asked))
 
     -- something went in
-    pub fill_some : (token : Token) (last_one : Option ℕ) (more : Bool) → token ≡ token_of old number → last_one ≡ last_data None (pieces_at new_c.outbox.outstanding new_c.outbox.next) → (more ≡ true) ↔ WantedGoes (still_asked want (if is_full then quota else 0)) new → is_some v.closed ≡ false → v.next ≤ MAX_VARINT → 0 < len → len ≤ room → length out ≡ room
-        → FillStep old want room (Ok (Some (record { token = token; len = len; last_stream = last_one; more = more }))) (take len out) new
-    fill_some token last_one more gives read goes clear le some within count =
-        let text = take len out in
-        let inside : length text ≡ len = length-take-le len out (omega (arith, within, count)) in
+    pub fill_some : (token : Token) (len : ℕ) (last_one : Option ℕ) (more : Bool) → fmap.get v.outstanding v.next ≡ None → token ≡ token_of old number → last_one ≡ last_data None (pieces_at new_c.outbox.outstanding new_c.outbox.next) → (more ≡ true) ↔ WantedGoes (still_asked want (if full then quota else 0)) new → 0 < len → len ≡ length text → len ≤ room
+        → FillStep old want room (Ok (Some (record { token = token; len = len; last_stream = last_one; more = more }))) text new
+    fill_some token len last_one more idle gives read goes some inside within =
+        let q = p.packed in
+        let frames = q.content.framed.frames in
         let there : text ≢ [] = λ none. omega (arith, some, inside, ap length none) in
         let mid : End = end_of new_c v in
-        let wanted : AllByRecursion (IsWanted want) (seen_all full.content.frames) = all_wanted (only_of want) refl (seen_all full.content.frames) full.content.wished in
-        let frames : seen_all full.content.frames ≢ [] = λ none. there (full.content.spells.canonical ∙ ap canonical_all (no_seen full.content.frames none)) in
-        let made = packed_made want.first (only_of want) room v text mid quota full token.number len true (sym (asks_all want (seen_all full.content.frames) frames wanted)) (ap (λ (t : Token). t.number) gives ∙ is) (sym inside) there (length text) (omega (arith, inside)) (names_less v 0 room (length text) full.content.frames (omega (arith, inside, within)) full.content.acks) (λ left. absurd (omega (arith, left))) in
-        let over : is_full ≡ false → (n : ℕ) → IsAsked want n → StreamGoes (settle (record mid { next = v.next + 1 })) n → ⊥ = λ is n asked goes. by.over is n asked (goes_same (settle (record mid { next = v.next + 1 })) mid n refl refl refl goes) in
+        let last : End = settle (record mid { next = v.next + 1 }) in
+        let fill_end : new ≡ last = end v new_c v.ack_due want.first (only_of want) room text quota full p new o number is after settled in
+        let wanted : AllByRecursion (IsWanted want) (seen_all frames) = all_wanted (only_of want) refl (seen_all frames) q.content.framed.wished in
+        let some_frame : seen_all frames ≢ [] = λ none. there (q.content.framed.spells.canonical ∙ ap canonical_all (no_seen frames none)) in
+        let made = packed_made want.first (only_of want) room v text mid quota q token.number len true (sym (asks_all want (seen_all frames) some_frame wanted)) (ap (λ (t : Token). t.number) gives ∙ is) inside there (length text) (omega (arith, inside)) (names_less v 0 room (length text) frames (omega (arith, inside, within)) q.content.framed.acks) (λ left. absurd (omega (arith, left))) in
+        let over : full ≡ false → (n : ℕ) → IsAsked want n → StreamGoes last n → ⊥ = λ is n asked goes. p.over is n asked (goes_less last mid n (λ l at. at) (λ left. left) (λ c out. out) goes) in
         let filled : Filled = record { token = token; len = len; last_stream = last_one; more = more } in
-        let all : IsFilled v want room filled text (settle (record mid { next = v.next + 1 })) =
+        let all : IsFilled v want room filled text last =
         record {
           made = made;
           token = gives ∙ ap (λ e. token_of e number) (sym same) ∙ ap (token_of v) is;
           fits = omega (arith, inside, within);
           wanted = wanted;
-          capped = omega (arith, full.content.cap);
-          whole = λ left. (let w = (full.whole left).wanted in record { items = w.items; streams = λ n asked goes. w.streams n asked (within_same mid (v.next + 1) _ want.first n goes) });
-          last_stream = read ∙ last_filled v v mid full.content.frames full.content.fills ∙ ap (λ (o : Option (List Piece)). last_stream_of (last_data None (elim o [ None ↦ [] | Some qs ↦ qs ])) full.content.frames) idle;
-          more = subst (λ k. (more ≡ true) ↔ WantedGoes (still_asked want k) (settle (record mid { next = v.next + 1 }))) (omega (arith, full.content.cap)) (more_by want quota (settle (record mid { next = v.next + 1 })) more is_full over (subst (λ e. (more ≡ true) ↔ WantedGoes (still_asked want (if is_full then quota else 0)) e) fill_end goes));
+          capped = omega (arith, q.content.cap);
+          whole = λ left. (let w = (q.whole left).wanted in record { items = w.items; streams = λ n asked goes. w.streams n asked (within_same mid (v.next + 1) _ want.first n goes) });
+          last_stream = read ∙ last_filled v v mid frames q.content.framed.fills ∙ ap (λ (o : Option (List Piece)). last_stream_of (last_data None (elim o [ None ↦ [] | Some qs ↦ qs ])) frames) idle;
+          more = subst (λ k. (more ≡ true) ↔ WantedGoes (still_asked want k) last) (omega (arith, q.content.cap)) (more_by want quota last more full over (subst (λ e. (more ≡ true) ↔ WantedGoes (still_asked want (if full then quota else 0)) e) fill_end goes));
         } in
-        subst (λ e. FillStep e want room (Ok (Some filled)) text new) same
-        (subst (λ r. FillAt r v want room (Ok (Some filled)) text new) (sym (no_refusal v clear le)) (subst (IsFilled v want room filled text) (sym fill_end) all))
+        subst (λ e. FillStep e want room (Ok (Some filled)) text new) same (rw (no_refusal v clear le) (subst (IsFilled v want room filled text) (sym fill_end) all))

@@ -1,5 +1,5 @@
 -- Which streams a frame of the peer opens.
-use Rattle.std.proofs.Common.{◌≡◌, ℕ, Bool, true, false, not, ◌&&◌, ◌||◌, Option, None, Some, is_some, inl, inr, refl}
+use Rattle.std.proofs.Common.{arith, ◌≡◌, ℕ, Bool, true, false, not, ◌&&◌, ◌||◌, Option, None, Some, is_some, inl, inr, refl}
 use Rattle.std.proofs.lemmas.Bool.{both_ways, or_parts}
 use Rattle.qs_machine.specs.Ends.{End, is_own, is_uni, send_lane, recv_lane, opened_by_peer}
 use Rattle.qs_machine.specs.Memory.{IsYetToOpen}
@@ -17,13 +17,11 @@ pub open_stays : (e : End) (n : ℕ) → is_some (recv_lane e n) ≡ true → (i
 open_stays e n there both =
     opened_back n e (λ other. record {
       recvs = λ _. there;
-      sends = λ h. here (is_uni n) (is_own e n) other h both;
+      sends = λ h. here (is_uni n) (is_own e n) (is_some (send_lane e n)) other h both;
     })
   where
-    here : (uni own : Bool) → own ≡ false → (uni && not own) ≡ false → (uni || is_some (send_lane e n)) ≡ true → is_some (send_lane e n) ≡ true
-    here false own other h both = both
-    here true false other h both = absurd (both_ways true h refl)
-    here true true other h both = absurd (both_ways true other refl)
+    here : (uni own there : Bool) → own ≡ false → (uni && not own) ≡ false → (uni || there) ≡ true → there ≡ true
+    here uni own there other h both = grind arith
 
 pub none_in : (e : End) (n : ℕ) → is_own e n ≡ false → is_some (recv_lane e n) ≡ false → IsYetToOpen e n
 none_in e n other none = (other, inl (none_is (recv_lane e n) none))

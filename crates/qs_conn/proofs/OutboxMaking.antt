@@ -1,17 +1,16 @@
 -- An outbox makes packets.
-use Rattle.std.proofs.Common.{◌≡◌, ℕ, ◌+◌, ◌-◌, ◌<◌, ◌≤◌, Bool, true, false, List, [], ◌∷◌, ◌++◌, length, Option, Some, None, is_some, nat_lt, refl, sym, ap, ◌∙◌, subst, inl, inr, arith, nat_cmp}
-use Rattle.std.proofs.lemmas.Bool.{both_ways, cases_eq, true_from_ne_false, false_from_ne_true}
+use Rattle.std.proofs.Common.{◌≡◌, ℕ, ◌+◌, ◌-◌, ◌<◌, ◌≤◌, Bool, true, false, List, [], ◌∷◌, ◌++◌, length, Option, Some, None, is_some, nat_lt, refl, sym, ap, ◌∙◌, subst, inl, inr, arith}
+use Rattle.std.proofs.lemmas.Bool.{cases_eq}
 use Rattle.std.proofs.lemmas.Bool.Decides.{nat_tests}
 use Rattle.std.specs.FinMap as fmap
 use Rattle.std.specs.FinMap.{nat_cmp-IsAntisymmetric}
 use Rattle.std.specs.FinSet as set
 use Rattle.std.specs.Cmp.{nat_cmp_total}
 use Rattle.std.specs.Option.{IfSome, IfNone}
-use Rattle.qs_ranges.specs.Numbers.{NumberSet, MAX_VARINT, same_numbers}
+use Rattle.qs_ranges.specs.Numbers.{MAX_VARINT}
 use Rattle.qs_send.specs.declared.parts.Chunk.{Chunk}
-use Rattle.qs_send.specs.declared.parts.Reset.{Reset}
 use Rattle.qs_send.specs.declared.piece.Item.{Item}
-use Rattle.qs_send.specs.declared.piece.Item.TheVariants.{MaxData, MaxStreamData, MaxStreams, ResetStream, StopSending, DataBlocked, StreamDataBlocked, StreamsBlocked}
+use Rattle.qs_send.specs.declared.piece.Item.TheVariants.{StreamDataBlocked}
 use Rattle.qs_send.specs.declared.piece.Piece.{Piece}
 use Rattle.qs_send.specs.declared.piece.Piece.TheVariants.{Data, Told}
 use Rattle.qs_send.specs.Lane.{SendLane, Sending, sent_lane, blocked_lane, after_sent, after_blocked}
@@ -19,7 +18,7 @@ use Rattle.qs_send.specs.Chunks.{IsDueChunk, IsNextChunk, HasNoChunk, HasBytes}
 use Rattle.qs_send.specs.Sound.{IsLawful}
 use Rattle.qs_machine.specs.Tables.{Tables, lookup, update, updated}
 use Rattle.qs_machine.specs.Ends.{Records}
-use Rattle.qs_machine.specs.Outgoing.{Outgoing, on_lane, sent_sum, lanes_of, with_pending, IsCarried, AreBelow, AreTied, IsTied, IsOutbox, HasSending, ChunkFound, MayTell, chunk_put, item_put_out, halves_told, blocked_noted}
+use Rattle.qs_machine.specs.Outgoing.{Outgoing, on_lane, sent_sum, lanes_of, with_pending, IsCarried, AreBelow, AreTied, IsOutbox, HasSending, ChunkFound, MayTell, chunk_put, item_put_out, halves_told, blocked_noted}
 use Rattle.qs_machine.specs.Sums.{or_none}
 use Rattle.qs_machine.proofs.TableLaws.{total_update}
 use Rattle.qs_machine.proofs.Carried.{some_is, get_new, get_other, with_piece}
@@ -27,9 +26,7 @@ use Rattle.qs_machine.proofs.Tied.{tied_blocked}
 use Rattle.qs_machine.proofs.LaneTables.{lane_there, lanes_updated, update_lanes}
 use Rattle.qs_machine.proofs.Ties.{ties_updated, ties_chunk_put, ties_item_put}
 use Rattle.qs_conn.proofs.OutboxAcks.{none_above}
-use Rattle.qs_conn.proofs.Chunks.{same_truth}
-use Rattle.qs_conn.proofs.Openings.{none_is}
-use Rattle.qs_conn.proofs.EachItem.{each_item}
+use Rattle.qs_conn.proofs.DueTied.{one_sending}
 
 pub chunk_found : (s : Sending) (room fresh : ℕ) (r : Option Chunk) → IfSome r (IsNextChunk s room fresh) → IfNone r (HasNoChunk s room fresh) → IfSome r (HasBytes s.lane) → ChunkFound s room fresh r
 chunk_found s room fresh None found none kept = none
@@ -40,36 +37,8 @@ pub piece_there : (m : Records) (k : ℕ) (ps : List Piece) (n : ℕ) → n ≡ 
 piece_there m k [] n is below = (let test : nat_lt 0 n ≡ false = grind (arith, nat_tests, is) in test ∙ ap is_some (sym (none_above m k below)))
 piece_there m k (p ∷ ps) n is below = (let test : nat_lt 0 n ≡ true = grind (arith, nat_tests, is) in test ∙ ap is_some (sym (get_new m k (p ∷ ps))))
 
--- What is due is told by the lane and by what is outstanding
-
-pub due_open : (s : Sending) → IsLawful s → (q : ℕ) → set.contains s.due.offsets q ≡ true → s.lane.was_reset ≡ None
-due_open s law q has = by_reset s.lane.was_reset refl
-  where
-    by_reset : (r : Option Reset) → s.lane.was_reset ≡ r → s.lane.was_reset ≡ None
-    by_reset None e = e
-    by_reset (Some r) e = absurd (both_ways (set.contains s.due.offsets q) (ap (λ (x : NumberSet). set.contains x q) (law.parts.none_due (ap is_some e)) ∙ set.contains-empty nat_cmp q) has)
-
-due_also : (m : Records) (n : ℕ) (s x : Sending) → IsLawful s → IsTied m n s → IsTied m n x → s.lane ≡ x.lane → (q : ℕ) → set.contains s.due.offsets q ≡ true → set.contains x.due.offsets q ≡ true
-due_also m n s x law t u same q has =
-    true_from_ne_false (set.contains x.due.offsets q) (λ e. both_ways (set.contains s.due.offsets q)
-    (t.not_due q
-    (u.flies q (ap (λ (l : SendLane). l.was_reset) (sym same) ∙ due_open s law q has) (subst (λ (l : SendLane). q < l.written) same (law.parts.due_written q has)) (subst (λ (l : SendLane). set.contains l.acked q ≡ false) same (law.parts.apart q has)) e)) has)
-
-end_also : (m : Records) (n : ℕ) (s x : Sending) → IsLawful s → IsTied m n s → IsTied m n x → s.lane ≡ x.lane → s.due.fin ≡ true → x.due.fin ≡ true
-end_also m n s x law t u same has = true_from_ne_false x.due.fin (λ e.
-    let open_end = false_from_ne_true (is_some s.lane.was_reset) (λ was. both_ways s.due.fin (law.ends.none_due was) has) in
-    let f = u.end_flies (ap (λ (l : SendLane). l.was_reset) (sym same) ∙ none_is s.lane.was_reset open_end) (ap (λ (l : SendLane). l.finished) (sym same) ∙ law.ends.due_asked has) (ap (λ (l : SendLane). l.fin_acked) (sym same) ∙ law.ends.due_open has) e in
-    both_ways s.due.fin (t.end_not_due f.0 f.1 f.2) has)
-
 pub same_sending : (o : Outgoing) (n : ℕ) (s x : Sending) → HasSending o n s → HasSending o n x → s ≡ x
-same_sending o n s x h g =
-    let lanes : s.lane ≡ x.lane = some_is (lookup o.sends n) s.lane x.lane h.lane g.lane in
-    let offsets : s.due.offsets ≡ x.due.offsets = same_numbers s.due.offsets x.due.offsets (λ q. same_truth _ _ (due_also o.outstanding n s x h.lawful h.tied g.tied lanes q) (due_also o.outstanding n x s g.lawful g.tied h.tied (sym lanes) q)) in
-    let ends : s.due.fin ≡ x.due.fin = same_truth _ _ (end_also o.outstanding n s x h.lawful h.tied g.tied lanes) (end_also o.outstanding n x s g.lawful g.tied h.tied (sym lanes)) in
-    ap (λ l. sending_of l s.due.offsets s.due.fin) lanes ∙ ap (λ d. sending_of x.lane d s.due.fin) offsets ∙ ap (λ b. sending_of x.lane x.due.offsets b) ends
-  where
-    sending_of : SendLane → NumberSet → Bool → Sending
-    sending_of l d b = record { lane = l; due = record { offsets = d; fin = b } }
+same_sending o n s x h g = one_sending o.outstanding n s x h.lawful g.lawful h.tied g.tied (some_is (lookup o.sends n) s.lane x.lane h.lane g.lane)
 
 -- The packet in the making has one piece more
 
@@ -123,9 +92,7 @@ pub box_chunk : (t t' : Tables Sending) (m : Records) (r : Bool) (ps qs : List P
 box_chunk t t' m r ps qs next sent spare free free' n moved s c h there law due halves pushed some room small sum =
     let at : t' ≡ update t n (after_sent s c) = halves ∙ ap (updated t n (λ x. after_sent x c)) there in
     record {
-      tied =
-          subst (λ (x : Records). AreTied t' x) (sym (ap (with_pending m next) pushed ∙ one_more m next ps (Data n c) h.below))
-          (subst (λ x. AreTied x (with_piece (with_pending m next ps) next (Data n c))) (sym at) (ties_chunk_put t (with_pending m next ps) next n s c h.tied there law due));
+      tied = rw (pushed, one_more m next ps (Data n c) h.below, at) (ties_chunk_put t (with_pending m next ps) next n s c h.tied there law due);
       below = h.below;
       sum = sum;
       small = omega (arith, sum, small);
@@ -137,9 +104,7 @@ pub box_item : (t t' : Tables Sending) (m : Records) (r : Bool) (ps qs : List Pi
     → t' ≡ halves_told i t → MayTell (lanes_of t) i → (IsCarried (with_pending m next ps) (Told i) → ⊥) → qs ≡ ps ++ Told i ∷ [] → 0 < spare → spare ≤ free' + 1 → IsOutbox t' m r qs next sent (spare - 1) free'
 box_item t t' m r ps qs next sent spare free free' i h halves may new pushed some room =
     record {
-      tied =
-          subst (λ (x : Records). AreTied t' x) (sym (ap (with_pending m next) pushed ∙ one_more m next ps (Told i) h.below))
-          (subst (λ x. AreTied x (with_piece (with_pending m next ps) next (Told i))) (sym halves) (told_tied i may new).0);
+      tied = rw (pushed, one_more m next ps (Told i) h.below, halves) (told_tied i may new).0;
       below = h.below;
       sum = ap (λ x. sent_sum (lanes_of x)) halves ∙ (told_tied i may new).1 ∙ h.sum;
       small = h.small;
@@ -160,13 +125,7 @@ box_item t t' m r ps qs next sent spare free free' i h halves may new pushed som
 
     told_tied : (j : Item) → MayTell (lanes_of t) j → (IsCarried (with_pending m next ps) (Told j) → ⊥) → Follows j (halves_told j t)
     told_tied (StreamDataBlocked n x) told new = blocked (StreamDataBlocked n x) n told new (lookup t n) refl
-    told_tied (MaxData x) told new = (ties_item_put t (with_pending m next ps) next (MaxData x) h.tied told new, refl)
-    told_tied (MaxStreamData n x) told new = (ties_item_put t (with_pending m next ps) next (MaxStreamData n x) h.tied told new, refl)
-    told_tied (MaxStreams d x) told new = (ties_item_put t (with_pending m next ps) next (MaxStreams d x) h.tied told new, refl)
-    told_tied (ResetStream n x y) told new = (ties_item_put t (with_pending m next ps) next (ResetStream n x y) h.tied told new, refl)
-    told_tied (StopSending n x) told new = (ties_item_put t (with_pending m next ps) next (StopSending n x) h.tied told new, refl)
-    told_tied (DataBlocked x) told new = (ties_item_put t (with_pending m next ps) next (DataBlocked x) h.tied told new, refl)
-    told_tied (StreamsBlocked d x) told new = (ties_item_put t (with_pending m next ps) next (StreamsBlocked d x) h.tied told new, refl)
+    told_tied j told new = (ties_item_put t (with_pending m next ps) next j h.tied told new, refl)
 
 below_put : (m : Records) (k : ℕ) (ps : List Piece) → AreBelow m k → AreBelow (with_pending m k ps) (k + 1)
 below_put m k [] below j has = omega (arith, below j has)
@@ -199,13 +158,11 @@ pub chunk_value : (e now : Outgoing) (t t' : Tables Sending) (m : Records) (ps q
 chunk_value e now t t' m ps qs n spare c is sends out below less halves pushed =
     let lanes : lanes_of t' ≡ updated e.sends n (λ l. sent_lane l c) (lookup e.sends n) = ap lanes_of halves ∙ lanes_updated t n (λ x. after_sent x c) (λ l. sent_lane l c) (λ s there. refl) ∙ ap (λ x. updated x n (λ l. sent_lane l c) (lookup x n)) (sym sends) in
     let more : with_pending m e.next qs ≡ with_piece e.outstanding e.next (Data n c) = ap (with_pending m e.next) pushed ∙ one_more m e.next ps (Data n c) below ∙ ap (λ x. with_piece x e.next (Data n c)) (sym out) in
-    ap (λ x. record e { sends = x; outstanding = with_pending m e.next qs; spare = spare }) lanes
-    ∙ ap (λ x. record e { sends = updated e.sends n (λ l. sent_lane l c) (lookup e.sends n); outstanding = x; spare = spare }) more
-    ∙ ap (λ x. record e { sends = updated e.sends n (λ l. sent_lane l c) (lookup e.sends n); outstanding = with_piece e.outstanding e.next (Data n c); spare = x }) less
-    ∙ ap (chunk_put n c) is
+    rw (lanes, more, less) (ap (chunk_put n c) is)
 
 told_lanes : (i : Item) (t : Tables Sending) → lanes_of (halves_told i t) ≡ blocked_noted i (lanes_of t)
-told_lanes i t = each_item (λ j. lanes_of (halves_told j t) ≡ blocked_noted j (lanes_of t)) (λ m. refl) (λ n m. refl) (λ d m. refl) (λ n code size. refl) (λ n code. refl) (λ m. refl) (λ n m. lanes_updated t n after_blocked blocked_lane (λ s there. refl)) (λ d m. refl) i
+told_lanes (StreamDataBlocked n m) t = lanes_updated t n after_blocked blocked_lane (λ s there. refl)
+told_lanes _ _ = refl
 
 pub item_value : (e now : Outgoing) (t t' : Tables Sending) (m : Records) (ps qs : List Piece) (spare : ℕ) (i : Item) → e ≡ now → e.sends ≡ lanes_of t → e.outstanding ≡ with_pending m e.next ps → AreBelow m e.next → spare ≡ e.spare - 1
     → t' ≡ halves_told i t → qs ≡ ps ++ Told i ∷ []
@@ -213,10 +170,7 @@ pub item_value : (e now : Outgoing) (t t' : Tables Sending) (m : Records) (ps qs
 item_value e now t t' m ps qs spare i is sends out below less halves pushed =
     let lanes : lanes_of t' ≡ blocked_noted i e.sends = ap lanes_of halves ∙ told_lanes i t ∙ ap (blocked_noted i) (sym sends) in
     let more : with_pending m e.next qs ≡ with_piece e.outstanding e.next (Told i) = ap (with_pending m e.next) pushed ∙ one_more m e.next ps (Told i) below ∙ ap (λ x. with_piece x e.next (Told i)) (sym out) in
-    ap (λ x. record e { sends = x; outstanding = with_pending m e.next qs; spare = spare }) lanes
-    ∙ ap (λ x. record e { sends = blocked_noted i e.sends; outstanding = x; spare = spare }) more
-    ∙ ap (λ x. record e { sends = blocked_noted i e.sends; outstanding = with_piece e.outstanding e.next (Told i); spare = x }) less
-    ∙ ap (item_put_out i) is
+    rw (lanes, more, less) (ap (item_put_out i) is)
 
 pub same_half : (e now : Outgoing) (t : Tables Sending) (n : ℕ) (s : Sending) → e ≡ now → e.sends ≡ lanes_of t → lookup t n ≡ Some s → or_none (lookup now.sends n) ≡ s.lane
 same_half e now t n s is sends there = ap (λ x. or_none (lookup x n)) (ap (λ (o : Outgoing). o.sends) (sym is) ∙ sends) ∙ ap or_none (lane_there t n s there)

@@ -1,5 +1,5 @@
 -- A frame on a stream of which nothing was told moves no limit and no count of streams.
-use Rattle.std.proofs.Common.{◌≡◌, ℕ, zero, suc, ◌/◌, ◌%◌, ◌<◌, ◌≤◌, Bool, true, false, ◌&&◌, ◌||◌, List, ◌∷◌, length, map, option_map, Option, None, Some, is_some, slice_set, refl, sym, ap, ◌∙◌, subst, arith}
+use Rattle.std.proofs.Common.{◌≡◌, ℕ, ◌/◌, ◌%◌, ◌<◌, ◌≤◌, Bool, true, false, ◌&&◌, ◌||◌, List, length, option_map, Option, None, Some, is_some, refl, sym, ap, ◌∙◌, subst, arith}
 use Rattle.std.specs.Prelude.{IsOk}
 use Rattle.std.proofs.lemmas.Bool.Decides.{nat_tests}
 use Rattle.std.proofs.lemmas.Option.{none-some, same_Some}
@@ -12,7 +12,7 @@ use Rattle.qs_calls.specs.declared.settings.Tuning.{Tuning}
 use Rattle.qs_machine.specs.Credit.{recv_ended}
 use Rattle.qs_machine.specs.Ends.{End, Present, is_uni, recv_lane, send_lane}
 use Rattle.qs_machine.specs.Standing.{KeepsCredit}
-use Rattle.qs_machine.specs.Tables.{Tables, table, with_table, lookup, update, updated, each, total}
+use Rattle.qs_machine.specs.Tables.{Tables, table, lookup, update, updated, each, total}
 use Rattle.qs_machine.specs.Verdicts.{or_new}
 use Rattle.qs_machine.proofs.TableEdits.{some_tested}
 use Rattle.qs_machine.proofs.TableLaws.{lookup_same, lookup_each, total_update}
@@ -23,24 +23,8 @@ use Rattle.qs_conn.specs.Settled.{AreNextWhere}
 use Rattle.qs_conn.proofs.Counted.{fit_streamed}
 use Rattle.qs_conn.proofs.Counting.{nothing_recounted}
 use Rattle.qs_conn.proofs.Openings.{open_stays}
+use Rattle.qs_conn.proofs.Pieces.{each_update}
 use Rattle.qs_conn.proofs.Settling.{settled_raise, stream_settled}
-
--- each stream's part changed, and one of them another
-
-map_set : (f : RecvLane → RecvLane) (xs : List RecvLane) (i : ℕ) (y : RecvLane) → map f (slice_set xs i y) ≡ slice_set (map f xs) i (f y)
-map_set f (x ∷ xs) (suc i) y = ap (λ zs. f x ∷ zs) (map_set f xs i y)
-map_set _ _ _ _ = refl
-
-each_with : (f : RecvLane → RecvLane) (t : Tables RecvLane) (k i : ℕ) (y : RecvLane) → each f (with_table t k (slice_set (table t k) i y)) ≡ with_table (each f t) k (slice_set (table (each f t) k) i (f y))
-unfolding each
-each_with f t zero i y = ap (with_table (each f t) 0) (map_set f t.client_bidi i y)
-each_with f t (suc zero) i y = ap (with_table (each f t) 1) (map_set f t.server_bidi i y)
-each_with f t (suc (suc zero)) i y = ap (with_table (each f t) 2) (map_set f t.client_uni i y)
-each_with f t (suc (suc (suc k))) i y = ap (with_table (each f t) 3) (map_set f t.server_uni i y)
-
-each_update : (f : RecvLane → RecvLane) (t : Tables RecvLane) (n : ℕ) (y : RecvLane) → each f (update t n y) ≡ update (each f t) n (f y)
-unfolding update
-each_update f t n y = each_with f t (n % 4) (n / 4) y
 
 raised_still : (t : Tables RecvLane) (n : ℕ) (l y : RecvLane) → lookup t n ≡ Some l → each raise t ≡ t → ((raise l).limit ≡ l.limit → (raise y).limit ≡ y.limit) → each raise (update t n y) ≡ update t n y
 raised_still t n l y at all keep =

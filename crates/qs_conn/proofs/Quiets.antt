@@ -1,5 +1,5 @@
 -- A stream whose half is quiet has nothing to send or to tell.
-use Rattle.std.proofs.Common.{if◌then◌else◌, ◌%◌, ◌==◌, nat_le, ◌≡◌, ℕ, ◌<◌, ◌≤◌, ◌+◌, Bool, true, false, is_some, Option, Some, None, option_map, refl, sym, ap, ◌∙◌, subst, arith, inl, inr}
+use Rattle.std.proofs.Common.{if◌then◌else◌, ◌%◌, ◌==◌, nat_le, ◌≡◌, ℕ, ◌<◌, ◌≤◌, ◌+◌, ◌⊎◌, Bool, true, false, is_some, Option, Some, None, option_map, refl, sym, ap, ◌∙◌, subst, arith, inl, inr}
 use Rattle.std.proofs.lemmas.Bool.{both_ways, cases_lt}
 use Rattle.std.proofs.lemmas.Option.{none-some, same_Some}
 use Rattle.std.specs.FinSet as set
@@ -12,7 +12,7 @@ use Rattle.qs_calls.specs.declared.settings.Settings.{Settings}
 use Rattle.qs_wire.specs.declared.stream_id.Role.{Role}
 use Rattle.qs_machine.specs.Tables.{Tables, type_of, lookup, updated}
 use Rattle.qs_machine.specs.Ends.{End, first_window_by, role_bit}
-use Rattle.qs_machine.specs.Due.{IsDue, IsEndDue, StreamGoes}
+use Rattle.qs_machine.specs.Due.{ByteGoes, EndGoes, StreamGoes}
 use Rattle.qs_machine.specs.Outgoing.{Outgoing, IsTied, HasSending, IsBlockedAt, WantsMore, chunk_put, lanes_of, sent_sum}
 use Rattle.qs_conn.specs.Filling.{end_by, AnyWantsMore}
 use Rattle.qs_conn.specs.declared.send_marks.Task.{Task}
@@ -21,7 +21,7 @@ use Rattle.std.specs.Option.{IfSome}
 use Rattle.qs_machine.specs.News.{IsLeast, IsHeld}
 use Rattle.qs_conn.specs.Marks.{IsBefore}
 use Rattle.qs_conn.specs.Tasks.{HasTask, IsOpen, IsQuiet, IsQuietAt, IsDoneAfter, IsFree, has}
-use Rattle.qs_conn.proofs.Least.{none_before}
+use Rattle.qs_conn.proofs.Least.{none_before, none_next}
 use Rattle.qs_conn.proofs.DueTied.{is_due, is_end_due}
 use Rattle.qs_conn.proofs.Tasks.{all_sent, no_byte, no_fin, no_fin_again, none_again}
 use Rattle.qs_machine.proofs.LaneTables.{lookup_lanes}
@@ -58,6 +58,13 @@ module _ (task : Task) (t : Tables Sending) (from : ℕ) (r : Option ℕ) (h : I
   pub held_open : IfSome r (IsOpen t)
   held_open = held (IsOpen t) r (λ n is. ap is_some (h.found n is).1.1)
 
+-- what goes of a stream is of that half
+half_goes : (task : Task) (o : Outgoing) (n : ℕ) → IsQuietAt task o n → (t : Limits) (recvs : Tables RecvLane) (e : End) → StreamGoes (end_by t recvs o e) n
+    → (s : Sending) × IsTied o.outstanding n s × IsQuiet task s × (ByteGoes (end_by t recvs o e) n s.lane ⊎ EndGoes (end_by t recvs o e) n s.lane)
+half_goes task o n q t recvs e (l, at, goes) =
+    let (s, is, tied, quiet) = q l at in
+    (s, tied, quiet, subst (λ x. ByteGoes (end_by t recvs o e) n x ⊎ EndGoes (end_by t recvs o e) n x) (sym is) goes)
+
 -- no bytes and no end
 module _ (o : Outgoing) (n : ℕ) (q : IsQuietAt tasks.Bytes o n) where
   pub no_wants : WantsMore (lookup o.sends n) → ⊥
@@ -65,24 +72,20 @@ module _ (o : Outgoing) (n : ℕ) (q : IsQuietAt tasks.Bytes o n) where
     where
       go : (x : Option SendLane) → lookup o.sends n ≡ x → WantsMore x → ⊥
       go None e w = w
-      go (Some l) e (none, more, below) =
+      go (Some l) e w =
           let (s, is, tied, quiet) = q l e in
-          let same : l.sent_end ≡ s.lane.sent_end = ap (λ x. x.sent_end) (sym is) in
-          let all : l.written ≡ s.lane.written = ap (λ x. x.written) (sym is) in
-          let limit : l.limit ≡ s.lane.limit = ap (λ x. x.limit) (sym is) in
-          let sent : s.lane.written ≤ s.lane.sent_end = all_sent s quiet (ap (λ x. x.was_reset) is ∙ none) (omega (arith, below, same, limit)) in
-          omega (arith, more, sent, same, all)
+          let (open_end, more, below) = subst (λ x. WantsMore (Some x)) (sym is) w in
+          let sent : s.lane.written ≤ s.lane.sent_end = all_sent s quiet open_end (omega (arith, below)) in
+          omega (arith, more, sent)
 
   pub no_goes : (t : Limits) (recvs : Tables RecvLane) (e : End) → StreamGoes (end_by t recvs o e) n → ⊥
-  no_goes t recvs e (l, at, inl (k, due, below, credit)) =
-      let (s, is, tied, quiet) = q l at in
+  no_goes t recvs e goes =
       let there = end_by t recvs o e in
-      let limit : l.limit ≡ s.lane.limit = ap (λ x. x.limit) (sym is) in
-      both_ways (set.contains s.due.offsets k) (no_byte s quiet k (omega (arith, below, limit))) (is_due there n s tied k (subst (λ x. IsDue there n x k) (sym is) due))
-  no_goes t recvs e (l, at, inr (due, whole)) =
-      let (s, is, tied, quiet) = q l at in
-      let there = end_by t recvs o e in
-      both_ways s.due.fin (no_fin s quiet (ap (λ x. x.sent_end) is ∙ whole ∙ ap (λ x. x.written) (sym is))) (is_end_due there n s tied (subst (IsEndDue there n) (sym is) due))
+      let (s, tied, quiet, some) = half_goes tasks.Bytes o n q t recvs e goes in
+      elim some [
+        | inl (k, due, below, credit) ↦ both_ways (set.contains s.due.offsets k) (no_byte s quiet k below) (is_due there n s tied k due)
+        | inr (due, whole) ↦ both_ways s.due.fin (no_fin s quiet whole) (is_end_due there n s tied due)
+      ]
 
 -- A stream of which a chunk went
 module _ (o : Outgoing) (n : ℕ) (s : Sending) (c : Chunk) (there : HasSending o n s) (due : IsDueChunk s c) where
@@ -97,24 +100,18 @@ module _ (o : Outgoing) (n : ℕ) (s : Sending) (c : Chunk) (there : HasSending 
 
 -- while the connection's credit is used up, nothing goes but what takes none
 pub no_goes_again : (o : Outgoing) (n : ℕ) → IsQuietAt tasks.Again o n → (t : Limits) (recvs : Tables RecvLane) (e : End) → t.known_data ≤ sent_sum o.sends → StreamGoes (end_by t recvs o e) n → ⊥
-no_goes_again o n q t recvs e spent (l, at, inl (k, due, below, inl before)) =
-    let (s, is, tied, quiet) = q l at in
+no_goes_again o n q t recvs e spent goes =
     let there = end_by t recvs o e in
-    let sent : l.sent_end ≡ s.lane.sent_end = ap (λ x. x.sent_end) (sym is) in
-    both_ways (set.contains s.due.offsets k) (none_again s quiet k (omega (arith, before, sent))) (is_due there n s tied k (subst (λ x. IsDue there n x k) (sym is) due))
-no_goes_again o n q t recvs e spent (l, at, inl (k, due, below, inr (first, credit))) = omega (arith, credit, spent)
-no_goes_again o n q t recvs e spent (l, at, inr (due, whole)) =
-    let (s, is, tied, quiet) = q l at in
-    let there = end_by t recvs o e in
-    both_ways s.due.fin (no_fin_again s quiet (ap (λ x. x.sent_end) is ∙ whole ∙ ap (λ x. x.written) (sym is))) (is_end_due there n s tied (subst (IsEndDue there n) (sym is) due))
+    let (s, tied, quiet, some) = half_goes tasks.Again o n q t recvs e goes in
+    elim some [
+      | inl (k, due, below, inl before) ↦ both_ways (set.contains s.due.offsets k) (none_again s quiet k before) (is_due there n s tied k due)
+      | inl (k, due, below, inr (first, credit)) ↦ omega (arith, credit, spent)
+      | inr (due, whole) ↦ both_ways s.due.fin (no_fin_again s quiet whole) (is_end_due there n s tied due)
+    ]
 
 -- the streams below a number want no more, and those up to the next one that is looked at
 pub wants_next : (o : Outgoing) (from m : ℕ) → ((n : ℕ) → n < from → WantsMore (lookup o.sends n) → ⊥) → ((n : ℕ) → from ≤ n → n < m → IsQuietAt tasks.Bytes o n) → (WantsMore (lookup o.sends m) → ⊥) → (n : ℕ) → n < m + 1 → WantsMore (lookup o.sends n) → ⊥
-wants_next o from m below quiet here n lt w =
-    elim (cases_lt n from) [
-      | inl before ↦ below n before w
-      | inr ge ↦ elim (cases_lt n m) [ inl between ↦ no_wants o n (quiet n ge between) w | inr past ↦ (let same : n ≡ m = omega (arith, lt, past) in here (subst (λ k. WantsMore (lookup o.sends k)) same w)) ]
-    ]
+wants_next o from m below quiet here = none_next (λ n. WantsMore (lookup o.sends n)) from m below (λ n ge lt. no_wants o n (quiet n ge lt)) here
 
 pub none_wants : (o : Outgoing) (from : ℕ) → ((n : ℕ) → n < from → WantsMore (lookup o.sends n) → ⊥) → ((n : ℕ) → from ≤ n → IsQuietAt tasks.Bytes o n) → AnyWantsMore o.sends → ⊥
 none_wants o from below quiet (n, w) = elim (cases_lt n from) [ inl before ↦ below n before w | inr ge ↦ no_wants o n (quiet n ge) w ]

@@ -1,18 +1,14 @@
 -- The memory for the pieces of a packet in the making suffices: also where nothing of a stream is due, and it is for the connection's own items.
 use Rattle.std.proofs.Common.{◌≡◌, ℕ, ◌-◌, ◌≤◌, Bool, true, false, Some, List, refl, sym, ap, ◌∙◌, subst, arith, inl, inr}
-use Rattle.qs_send.specs.Lane.{Sending}
-use Rattle.qs_send.specs.Chunks.{IsAllowed}
 use Rattle.qs_send.specs.declared.parts.Chunk.{Chunk}
 use Rattle.qs_send.specs.declared.piece.Item.{Item}
 use Rattle.qs_send.specs.declared.piece.Item.TheVariants.{MaxData, MaxStreamData, MaxStreams, ResetStream, StopSending, DataBlocked, StreamDataBlocked, StreamsBlocked}
-use Rattle.qs_send.specs.declared.piece.Piece.{Piece}
 use Rattle.qs_send.specs.declared.piece.Piece.TheVariants.{Data, Told}
-use Rattle.qs_machine.specs.Due.{StreamGoes, IsCurrent, IsCovered, IsOutstanding}
+use Rattle.qs_machine.specs.Due.{StreamGoes, IsCurrent, IsCovered}
 use Rattle.qs_machine.specs.Ends.{End, new_end}
-use Rattle.qs_machine.specs.Credit.{all_sent}
 use Rattle.qs_machine.specs.Seen.{Control}
 use Rattle.qs_machine.specs.Lawful.{frame_put}
-use Rattle.qs_machine.specs.Outgoing.{Outgoing, HasSending, item_put_out, sent_sum}
+use Rattle.qs_machine.specs.Outgoing.{Outgoing, item_put_out, sent_sum}
 use Rattle.qs_machine.specs.Tables.{Tables, lookup}
 use Rattle.qs_conn.specs.declared.carried.Carried.{Carried}
 use Rattle.qs_conn.specs.declared.middle.Core.{Core}
@@ -26,13 +22,11 @@ use Rattle.qs_conn.specs.Middle.{IsCore, IsStill, HasMemory, HoldsAtMost, own_it
 use Rattle.qs_conn.specs.Tasks.{IsQuietAt}
 use Rattle.qs_conn.specs.declared.send_marks.Task.TheVariants as tasks
 use Rattle.qs_conn.specs.OwnCarried.{Kept}
-use Rattle.qs_conn.proofs.Chunks.{chunk_goes, ties_of}
-use Rattle.qs_conn.proofs.Items.{current_by_base, acked_by_base, base_item}
-use Rattle.qs_conn.proofs.Pieces.{put_old}
+use Rattle.qs_conn.proofs.Chunks.{Allowed, chunk_goes, ties_of}
+use Rattle.qs_conn.proofs.Pieces.{put_old, goes_less, current_by_base, acked_by_base, base_item}
 use Rattle.qs_conn.proofs.Quiets.{no_goes}
 use Rattle.qs_conn.proofs.Slots.{end_put}
 use Rattle.qs_conn.proofs.Untolds.{recv_idle, send_idle}
-use Rattle.qs_conn.proofs.Pieces.{due_more, end_due_more}
 
 -- some end with these tables
 pub some_end : Core → End
@@ -73,28 +67,16 @@ still_unmarked c h quiet sends recvs = record { no_item = item; no_stream = λ e
     item e kinds.MaxStreamData n = recv_idle c.limits c.recvs c.outbox e c.untold_recvs n (recvs n) h.told_in kinds.MaxStreamData (inr refl)
     item e kinds.StreamDataBlocked n = send_idle c.limits c.recvs c.outbox e c.untold_sends n (sends n) h.told_out kinds.StreamDataBlocked (inr refl)
 
--- with more outstanding no more goes
-goes_less : (a b : End) (n : ℕ) → a.sends ≡ b.sends → a.known_data ≡ b.known_data → ((p : Piece) → IsOutstanding b p → IsOutstanding a p) → StreamGoes a n → StreamGoes b n
-goes_less a b n sends known more (l, at, goes) =
-    let sums : all_sent a ≡ all_sent b = ap (λ t. sent_sum t) sends in (
-      l,
-      subst (λ t. lookup t n ≡ Some l) sends at,
-      elim goes [
-        | inl (q, due, low, credit) ↦ inl (q, due_more a b n l (λ c out. more (Data n c) out) q due, low, elim credit [ inl old ↦ inl old | inr (first, left) ↦ inr (first, omega (arith, left, sums, known)) ])
-        | inr (due, whole) ↦ inr (end_due_more a b n l (λ c out. more (Data n c) out) due, whole)
-      ],
-    )
-
 -- of the items the one that moves a half is of a stream
 abbrev IsOwn : Item → Type 0
 IsOwn i = own_items (slot_of i) ≡ 1
 
 own_goes : (i : Item) (e : End) (n : ℕ) → IsOwn i → StreamGoes (frame_put (Control i) e) n → StreamGoes e n
 unfolding frame_put
-own_goes (MaxData m) e n own = goes_less (frame_put (Control (MaxData m)) e) e n refl refl (put_old (Control (MaxData m)) e)
-own_goes (MaxStreams d m) e n own = goes_less (frame_put (Control (MaxStreams d m)) e) e n refl refl (put_old (Control (MaxStreams d m)) e)
-own_goes (DataBlocked m) e n own = goes_less (frame_put (Control (DataBlocked m)) e) e n refl refl (put_old (Control (DataBlocked m)) e)
-own_goes (StreamsBlocked d m) e n own = goes_less (frame_put (Control (StreamsBlocked d m)) e) e n refl refl (put_old (Control (StreamsBlocked d m)) e)
+own_goes (MaxData m) e n own = goes_less (frame_put (Control (MaxData m)) e) e n (λ l at. at) (λ left. left) (λ c. put_old (Control (MaxData m)) e (Data n c))
+own_goes (MaxStreams d m) e n own = goes_less (frame_put (Control (MaxStreams d m)) e) e n (λ l at. at) (λ left. left) (λ c. put_old (Control (MaxStreams d m)) e (Data n c))
+own_goes (DataBlocked m) e n own = goes_less (frame_put (Control (DataBlocked m)) e) e n (λ l at. at) (λ left. left) (λ c. put_old (Control (DataBlocked m)) e (Data n c))
+own_goes (StreamsBlocked d m) e n own = goes_less (frame_put (Control (StreamsBlocked d m)) e) e n (λ l at. at) (λ left. left) (λ c. put_old (Control (StreamsBlocked d m)) e (Data n c))
 own_goes _ _ _ own = absurd (omega (arith, own))
 
 idle_put : (i : Item) (e : End) (slot : Slot) → IsIdle e slot → IsIdle (frame_put (Control i) e) slot
@@ -144,19 +126,19 @@ item_memory c e slot i xs ys len end o full room room' left at is free puts spar
       still_put c i o (ap own_items at ∙ one still) out still,
     )
 
--- a chunk that may go is something of a stream
-still_chunk : (c : Core) (n : ℕ) (s : Sending) (chunk : Chunk) (left fresh : ℕ) → HasSending c.outbox n s → IsAllowed s left fresh chunk → fresh ≡ c.limits.known_data - sent_sum c.outbox.sends → IsStill c → ⊥
-still_chunk c n s chunk left fresh has next is still =
-    let credit = next.within_credit in
-    still.no_stream (some_end c) n (chunk_goes (end_of c (some_end c)) n s (ties_of c.limits c.recvs c.outbox (some_end c) n s has) chunk next.chunk (omega (arith, credit, is)))
+module _ (c : Core) (n : ℕ) (chunk : Chunk) (left fresh : ℕ) (a : Allowed c.outbox n left fresh chunk) (is : fresh ≡ c.limits.known_data - sent_sum c.outbox.sends) where
+  -- a chunk that may go is something of a stream
+  still_chunk : IsStill c → ⊥
+  still_chunk still =
+      let (s, h, (next, has)) = a in
+      still.no_stream (some_end c) n (chunk_goes (end_of c (some_end c)) n s (ties_of c.limits c.recvs c.outbox (some_end c) n s h) chunk next.chunk (omega (arith, next.within_credit, is)))
 
-module _ (c : Core) (n : ℕ) (s : Sending) (chunk : Chunk) (left fresh : ℕ) (has : HasSending c.outbox n s) (next : IsAllowed s left fresh chunk) (is : fresh ≡ c.limits.known_data - sent_sum c.outbox.sends) where
   -- so there is memory for it
   pub chunk_spare : (room len own : ℕ) → HasMemory c room len own → HasOneSpare room len c.outbox.spare
-  chunk_spare room len own h fits = elim h [ inl all ↦ omega (arith, all, fits) | inr (few, still) ↦ absurd (still_chunk c n s chunk left fresh has next is still) ]
+  chunk_spare room len own h fits = elim h [ inl all ↦ omega (arith, all, fits) | inr (few, still) ↦ absurd (still_chunk still) ]
 
   pub chunk_memory : (o : Outgoing) (marks : Tables Bool) (room len room' end own : ℕ) → (HasSpare room len c.outbox.spare → HasSpare room' end o.spare) → HasMemory c room len own → HasMemory (record c { outbox = o; untold_sends = marks }) room' end (own - 0)
-  chunk_memory o marks room len room' end own spare h = elim h [ inl all ↦ inl (spare all) | inr (few, still) ↦ absurd (still_chunk c n s chunk left fresh has next is still) ]
+  chunk_memory o marks room len room' end own spare h = elim h [ inl all ↦ inl (spare all) | inr (few, still) ↦ absurd (still_chunk still) ]
 
 -- how many items of the connection itself a slot has
 pub own_kind : (kind : Kind) (n : ℕ) → own_items (slot_at kind n) ≡ 0

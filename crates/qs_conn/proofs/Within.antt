@@ -36,30 +36,20 @@ let_go_cut e l bytes is = rw is refl
 
 -- What is taken of a front is the front of the whole
 
-module _ (l : SendLane) (o : Option ℕ) (credit : ℕ) (bytes : List ℕ) where
-  counts_front : (p : Option ℕ) (xs : List ℕ) → accepted l (length (front_of p xs)) ≡ at_most p (accepted l (length xs))
-  counts_front None xs = refl
-  counts_front (Some left) xs = omega (arith, length-take left xs)
+module _ (l : SendLane) (credit : ℕ) (bytes : List ℕ) where
+  counts : (o : Option ℕ) (b : Bool) → accepted l (length (front_of o (cond b (take credit bytes) bytes))) ≡ at_most o (cond b (min (accepted l (length bytes)) credit) (accepted l (length bytes)))
+  counts None true = omega (arith, length-take credit bytes)
+  counts None false = refl
+  counts (Some left) true = omega (arith, length-take left (take credit bytes), length-take credit bytes)
+  counts (Some left) false = omega (arith, length-take left bytes)
 
-  counts_cut : (b : Bool) → accepted l (length (cond b (take credit bytes) bytes)) ≡ cond b (min (accepted l (length bytes)) credit) (accepted l (length bytes))
-  counts_cut true = omega (arith, length-take credit bytes)
-  counts_cut false = refl
-
-  counts : (b : Bool) → accepted l (length (front_of o (cond b (take credit bytes) bytes))) ≡ at_most o (cond b (min (accepted l (length bytes)) credit) (accepted l (length bytes)))
-  counts b = counts_front o (cond b (take credit bytes) bytes) ∙ ap (at_most o) (counts_cut b)
-
-  takes_front : (p : Option ℕ) (xs : List ℕ) (count : ℕ) → count ≤ length (front_of p xs) → (take count (front_of p xs) ≡ take count xs) × (count ≤ length xs)
-  takes_front None xs count le = (refl, le)
-  takes_front (Some left) xs count le = (take-take count left xs (omega (arith, le, length-take left xs)), omega (arith, le, length-take left xs))
-
-  takes_cut : (b : Bool) (count : ℕ) → count ≤ length (cond b (take credit bytes) bytes) → take count (cond b (take credit bytes) bytes) ≡ take count bytes
-  takes_cut true count le = take-take count credit bytes (omega (arith, le, length-take credit bytes))
-  takes_cut false count le = refl
-
-  takes : (b : Bool) (count : ℕ) → count ≡ accepted l (length (front_of o (cond b (take credit bytes) bytes))) → take count (front_of o (cond b (take credit bytes) bytes)) ≡ take count bytes
-  takes b count is =
-      let front = takes_front o (cond b (take credit bytes) bytes) count (omega (arith, is)) in
-      front.0 ∙ takes_cut b count front.1
+  takes : (o : Option ℕ) (b : Bool) (count : ℕ) → count ≤ length (front_of o (cond b (take credit bytes) bytes)) → take count (front_of o (cond b (take credit bytes) bytes)) ≡ take count bytes
+  takes None true count le = take-take count credit bytes (omega (arith, le, length-take credit bytes))
+  takes None false count le = refl
+  takes (Some left) true count le =
+      let cut = length-take left (take credit bytes) in
+      take-take count left (take credit bytes) (omega (arith, le, cut)) ∙ take-take count credit bytes (omega (arith, le, cut, length-take credit bytes))
+  takes (Some left) false count le = take-take count left bytes (omega (arith, le, length-take left bytes))
 
 -- A write is one of what is offered
 
@@ -71,8 +61,8 @@ write_within e now n bytes cut count sends new is offer none free much after set
     let here : cut ≡ offered e l bytes = offer ∙ ap (λ (x : End). offered x (or_none (send_lane x n)) bytes) (sym is) in
     let b = e.tuning.within_credit in
     let enough : count ≡ accepted l (length (offered e l bytes)) = much ∙ ap (λ (xs : List ℕ). accepted l (length xs)) here in
-    let front : take count cut ≡ take count bytes = ap (take count) here ∙ takes l (window_left e) (credit_for e l) bytes b count enough in
-    write_ok e now n bytes count sends new is none free (enough ∙ counts l (window_left e) (credit_for e l) bytes b)
+    let front : take count cut ≡ take count bytes = ap (take count) here ∙ takes l (credit_for e l) bytes (window_left e) b count (omega (arith, enough)) in
+    write_ok e now n bytes count sends new is none free (enough ∙ counts l (credit_for e l) bytes (window_left e) b)
     (after ∙ ap (λ (xs : List ℕ). updated e.sends n (λ m. write_lane m xs) (send_lane e n)) front) settled
 
 pub write_short : (e now : End) (n : ℕ) (bytes cut : List ℕ) (fault : SendFault) → e ≡ now → cut ≡ offered now (or_none (send_lane now n)) bytes → no_sender now n ≡ None → fault ≡ unwrap_or (refusal (or_none (send_lane e n))) sends.NoMemory
@@ -80,7 +70,7 @@ pub write_short : (e now : End) (n : ℕ) (bytes cut : List ℕ) (fault : SendFa
 write_short e now n bytes cut fault is offer none told asks =
     let l = or_none (send_lane e n) in
     let here : cut ≡ offered e l bytes = offer ∙ ap (λ (x : End). offered x (or_none (send_lane x n)) bytes) (sym is) in
-    let same : accepted l (length cut) ≡ accepted_by e l (length bytes) = ap (λ (xs : List ℕ). accepted l (length xs)) here ∙ counts l (window_left e) (credit_for e l) bytes e.tuning.within_credit in
+    let same : accepted l (length cut) ≡ accepted_by e l (length bytes) = ap (λ (xs : List ℕ). accepted l (length xs)) here ∙ counts l (credit_for e l) bytes (window_left e) e.tuning.within_credit in
     write_err e now n bytes fault is none told (λ no_memory. subst (λ (k : ℕ). 0 < k) same (asks no_memory))
 
 -- How many bytes a write takes

@@ -243,22 +243,26 @@ abbrev pub IsAckLeft : Bool → (due left : Bool) → Type 0
 IsAckLeft true due left = (due ≡ true) × (left ≡ false)
 IsAckLeft false due left = left ≡ due
 
--- A packet so far: an ACK and control items, in order. Of the slots that were passed, all that was due is in it.
-pub record Begun (wish : Wish) (room : ℕ) (old : End) (text : List ℕ) (e : End) (P : Slot → Type 0) : Type 0 where
-  pub asked : wish.want.items ≡ true
+-- The frames of a packet so far, what they make of the end, and that each may stand in it.
+pub record Framed (wish : Wish) (room : ℕ) (old : End) (text : List ℕ) (e : End) : Type 0 where
   pub frames : List FrameValue
   pub fills : Fills old old (seen_all frames) e
   pub spells : IsText wish.delay frames text
   pub acks : AllByRecursion (NamesMost old wish.delay room) frames
   pub wished : AllByRecursion (IsWished wish) (seen_all frames)
-  pub turns : (first : ℕ) → AreInTurn first old (seen_all frames)
+  pub ack : wish.ack_due ≡ true → (room < length text + 25) ⊎ AcksAll old (seen_all frames)
+
+-- A packet so far: an ACK and control items, in order. Of the slots that were passed, all that was due is in it.
+pub record Begun (wish : Wish) (room : ℕ) (old : End) (text : List ℕ) (e : End) (P : Slot → Type 0) : Type 0 where
+  pub asked : wish.want.items ≡ true
+  pub framed : Framed wish room old text e
+  pub turns : (first : ℕ) → AreInTurn first old (seen_all framed.frames)
   pub order : AreInOrder old [] (pieces_so_far e e.next)
   pub steady : base e ≡ base old
   pub within : all_sent old ≤ old.known_data
-  pub ack : wish.ack_due ≡ true → (room < length text + 25) ⊎ AcksAll old (seen_all frames)
-  pub items : (i : Item) → P (slot_of i) → IsDueItem old i → Among (Control i) (seen_all frames)
+  pub items : (i : Item) → P (slot_of i) → IsDueItem old i → Among (Control i) (seen_all framed.frames)
   pub no_chunk : (n : ℕ) (c : Chunk) → InPacket e (Data n c) → ⊥
-  pub no_byte : stream_bytes (seen_all frames) ≡ 0
+  pub no_byte : stream_bytes (seen_all framed.frames) ≡ 0
 
 -- How far the turns of streams are, that begin at `first`: those from there on and below `at` had theirs; or, on the way around, all
 -- those and the ones below `at`.
@@ -289,15 +293,11 @@ abbrev pub way_end : Bool → ℕ → Turn
 way_end false first = turn_at true first 0
 way_end true first = turn_at true first first
 
--- A packet so far, with so many bytes of streams left of the cap: its frames, what they make of the end, and that each may stand in it.
+-- A packet so far, with so many bytes of streams left of the cap.
 pub record Content (first : ℕ) (wish : Wish) (room : ℕ) (old : End) (text : List ℕ) (e : End) (quota : ℕ) : Type 0 where
-  pub frames : List FrameValue
-  pub fills : Fills old old (seen_all frames) e
-  pub cap : stream_bytes (seen_all frames) + quota ≡ wish.want.most_bytes
-  pub spells : IsText wish.delay frames text
-  pub acks : AllByRecursion (NamesMost old wish.delay room) frames
-  pub wished : AllByRecursion (IsWished wish) (seen_all frames)
-  pub turns : AreInTurn first old (seen_all frames)
+  pub framed : Framed wish room old text e
+  pub cap : stream_bytes (seen_all framed.frames) + quota ≡ wish.want.most_bytes
+  pub turns : AreInTurn first old (seen_all framed.frames)
   pub order : wish.want.items ≡ true → AreInOrder old [] (pieces_so_far e e.next)
   pub within : all_sent e ≤ e.known_data
 
@@ -305,8 +305,7 @@ pub record Content (first : ℕ) (wish : Wish) (room : ℕ) (old : End) (text : 
 pub record WithItems (first : ℕ) (wish : Wish) (room : ℕ) (old : End) (text : List ℕ) (e : End) (quota : ℕ) : Type 0 where
   pub begins : first ≡ wish.want.first
   pub content : Content first wish room old text e quota
-  pub ack : wish.ack_due ≡ true → (room < length text + 25) ⊎ AcksAll old (seen_all content.frames)
-  pub items : wish.want.items ≡ true → (i : Item) → IsDueItem old i → Among (Control i) (seen_all content.frames)
+  pub items : wish.want.items ≡ true → (i : Item) → IsDueItem old i → Among (Control i) (seen_all content.framed.frames)
 
 -- The same, where streams that had their turn have nothing to send any more; of the others nothing is in it.
 pub record Flowing (wish : Wish) (room : ℕ) (old : End) (text : List ℕ) (e : End) (quota : ℕ) (t : Turn) : Type 0 where
@@ -317,7 +316,7 @@ pub record Flowing (wish : Wish) (room : ℕ) (old : End) (text : List ℕ) (e :
 -- A packet that needs no more: it has all that the cap of bytes lets in, or no room for an item more.
 pub record Packed (first : ℕ) (wish : Wish) (room : ℕ) (old : End) (text : List ℕ) (e : End) (quota : ℕ) : Type 0 where
   pub content : Content first wish room old text e quota
-  pub whole : length text + 25 ≤ room → HasWished wish old (seen_all content.frames) e
+  pub whole : length text + 25 ≤ room → HasWished wish old (seen_all content.framed.frames) e
 
 -- The same of one that all went into that may of the streams that are asked for, or that is full.
 pub record PackedBy (first : ℕ) (wish : Wish) (room : ℕ) (old : End) (text : List ℕ) (e : End) (quota : ℕ) (full : Bool) : Type 0 where

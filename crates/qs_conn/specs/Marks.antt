@@ -1,6 +1,6 @@
 -- Of private contracts.
 -- Which streams may have something to send or to tell: a mark for each index, and streams that have nothing.
-use Rattle.std.specs.Prelude.{◌≡◌, ℕ, ◌+◌, ◌*◌, ◌/◌, ◌^◌, ◌≤◌, ◌<◌, length, Bool, true, false, not, ◌&&◌, List, [], ◌∷◌, slice_index_or, slice_get, slice_set, min, Option, None, Some, ⊤}
+use Rattle.std.specs.Prelude.{◌≡◌, ℕ, ◌+◌, ◌*◌, ◌/◌, ◌^◌, ◌≤◌, ◌<◌, ◌⊎◌, length, Bool, true, false, not, ◌&&◌, List, [], ◌∷◌, slice_index_or, slice_get, slice_set, min, Option, None, Some, ⊤}
 pub use Rattle.qs_ranges.specs.Bits.{IsBefore}
 use Rattle.qs_machine.specs.Tables.{Tables, type_of, lookup, widened}
 use Rattle.qs_machine.specs.Sums.{changed}
@@ -113,3 +113,7 @@ pub record AreFull (marks full : List Bool) : Type 0 where
 -- what is current of the slot was told already
 abbrev pub IsIdle : End → Slot → Type 0
 IsIdle e slot = (i : Item) → slot_of i ≡ slot → IsCurrent e i → IsCovered e i
+
+-- of the slots of the second sort that aren't of the first, all that is current was told
+abbrev pub AddsIdle : End → (P Q : Slot → Type 0) → Type 0
+AddsIdle e P Q = (s : Slot) → Q s → P s ⊎ IsIdle e s

@@ -69,32 +69,34 @@ abbrev pub TellsDue : Bool → End → Passed → Type 0
 TellsDue true e passed = (i : Item) × IsDueItem e i
 TellsDue false e passed = (i : Item) → IsPassed passed (slot_of i) → IsDueItem e i → ⊥
 
--- something of the stream goes, or nothing
+-- it is so, as the answer tells, or not
+abbrev pub Tells : Bool → Type 0 → Type 0
+Tells true P = P
+Tells false P = P → ⊥
+
+-- something of the stream goes
 abbrev pub TellsGoing : Bool → End → ℕ → Type 0
-TellsGoing true e n = StreamGoes e n
-TellsGoing false e n = StreamGoes e n → ⊥
+TellsGoing b e n = Tells b (StreamGoes e n)
 
--- something of some stream goes, or nothing of any
+-- something of some stream goes
 abbrev pub TellsAnyGoing : Bool → End → Type 0
-TellsAnyGoing true e = (n : ℕ) × StreamGoes e n
-TellsAnyGoing false e = (n : ℕ) → StreamGoes e n → ⊥
+TellsAnyGoing b e = Tells b ((n : ℕ) × StreamGoes e n)
 
--- a control item is due or a stream goes; or neither
+-- a control item is due or a stream goes
+abbrev pub FrameGoes : End → Type 0
+FrameGoes e = ((i : Item) × IsDueItem e i) ⊎ ((n : ℕ) × StreamGoes e n)
+
 abbrev pub TellsFrame : Bool → End → Type 0
-TellsFrame true e = ((i : Item) × IsDueItem e i) ⊎ ((n : ℕ) × StreamGoes e n)
-TellsFrame false e = ((i : Item) × IsDueItem e i) ⊎ ((n : ℕ) × StreamGoes e n) → ⊥
+TellsFrame b e = Tells b (FrameGoes e)
 
--- of what is asked for an item is due, or none
+-- of what is asked for an item is due
 abbrev pub TellsItem : Fill → Bool → End → Type 0
-TellsItem want true e = (want.items ≡ true) × ((i : Item) × IsDueItem e i)
-TellsItem want false e = (want.items ≡ true) × ((i : Item) × IsDueItem e i) → ⊥
+TellsItem want b e = Tells b ((want.items ≡ true) × ((i : Item) × IsDueItem e i))
 
--- of what is asked for something of some stream goes, or nothing
+-- of what is asked for something of some stream goes
 abbrev pub TellsStream : Fill → Bool → End → Type 0
-TellsStream want true e = (n : ℕ) × IsAsked want n × StreamGoes e n
-TellsStream want false e = ((n : ℕ) × IsAsked want n × StreamGoes e n) → ⊥
+TellsStream want b e = Tells b ((n : ℕ) × IsAsked want n × StreamGoes e n)
 
--- something that is asked for goes, or nothing
+-- something that is asked for goes
 abbrev pub TellsWanted : Fill → Bool → End → Type 0
-TellsWanted want true e = WantedGoes want e
-TellsWanted want false e = WantedGoes want e → ⊥
+TellsWanted want b e = Tells b (WantedGoes want e)

@@ -1,7 +1,8 @@
-use Rattle.std.proofs.Common.{◌≡◌, ℕ, ◌∙◌, arith, refl, sym, subst, length, drop, ap}
+use Rattle.std.proofs.Common.{◌≡◌, ℕ, ◌∙◌, arith, refl, sym, subst, length, take, drop, ap}
+use Rattle.std.proofs.lemmas.List.{length-take-le}
 use Rattle.qs_calls.specs.declared.token.Token.{Token}
 use Rattle.qs_conn.proofs.Cores.{core_outbox, kept_streams}
-use Rattle.qs_conn.proofs.MadePackets.{fill_exhausted, fill_none, fill_idle, fill_next, fill_some, fill_order}
+use Rattle.qs_conn.proofs.MadePackets.{packed_by, filled_next, idle_none, fill_exhausted, fill_none, fill_some, fill_order}
 use Rattle.qs_conn.proofs.Rests.{behind_none, behind_kept}
 use Rattle.qs_conn.proofs.Stills.{memory_begun}
 use Rattle.qs_conn.proofs.endpoint.Endpoint.fill.Goals as goal
@@ -20,18 +21,19 @@ fill-packet-requires-clause-memory c = memory_begun c.self.inside.core _ _ c.beg
 pub invariant_of-self-then-len-eq0 : goal.invariant_of-self-then-len-eq0
 invariant_of-self-then-len-eq0 c =
     let filled = c.fill-packet.ensures.filled in
-    let idle = fill_idle _ c.args.self.now c.self.view_is (record c.self.inside.core { outbox = c.begin.new.self }) c.fill-packet.new.self c.args.want.now (length c.args.out.now) c.fill-packet.result.len c.fill-packet.result.quota c.fill-packet.result.is_full c.fill-packet.new.out c.self.invariant.rest.idle (rw c.in_default.ensures.ok refl) c.fill-packet.ensures.packed c.if-len-eq0.true in
+    let p = packed_by _ c.args.self.now c.self.view_is (record c.self.inside.core { outbox = c.begin.new.self }) c.fill-packet.new.self c.args.want.now.first _ _ _ _ _ c.self.inside.ack_due c.self.invariant.rest.idle (rw c.in_default.ensures.ok refl) refl c.fill-packet.ensures.packed in
+    let idle = idle_none _ c.fill-packet.new.self c.self.inside.ack_due _ _ _ _ _ _ p c.self.invariant.rest.idle (ap (λ k. take k c.fill-packet.new.out) c.if-len-eq0.true) in
     kept_streams c.self.inside.core _ _ _ _ _ c.self.invariant c.fill-packet.new.self (record { core = filled.filling.core; idle = idle }) (record { limits = filled.streams.limits; recvs = filled.streams.recvs }) filled.ended
 
 pub returns-then-len-eq0-clause-step : goal.returns-then-len-eq0-clause-step
 returns-then-len-eq0-clause-step c =
-    fill_none _ c.args.self.now c.self.view_is (record c.self.inside.core { outbox = c.begin.new.self }) c.fill-packet.new.self c.args.want.now (length c.args.out.now) c.fill-packet.result.len c.fill-packet.result.quota c.fill-packet.result.is_full c.fill-packet.new.out c.self.invariant.rest.idle (rw c.in_default.ensures.ok refl) c.fill-packet.ensures.packed
-    (sym c.is_some.ensures ∙ c.if-is_some.false) (omega (arith, c.if-number-gt-MAX_VARINT.false, c.next-number.ensures)) c.if-len-eq0.true
+    let p = packed_by _ c.args.self.now c.self.view_is (record c.self.inside.core { outbox = c.begin.new.self }) c.fill-packet.new.self c.args.want.now.first _ _ _ _ _ c.self.inside.ack_due c.self.invariant.rest.idle (rw c.in_default.ensures.ok refl) refl c.fill-packet.ensures.packed in
+    fill_none _ c.args.self.now c.self.view_is c.fill-packet.new.self c.args.want.now _ _ _ _ p (sym c.is_some.ensures ∙ c.if-is_some.false) (omega (arith, c.if-number-gt-MAX_VARINT.false, c.next-number.ensures)) (ap (λ k. take k c.fill-packet.new.out) c.if-len-eq0.true)
 
 pub commit-requires : goal.commit-requires
 commit-requires c =
-    let next = fill_next _ c.args.self.now c.self.view_is (record c.self.inside.core { outbox = c.begin.new.self }) c.fill-packet.new.self c.args.want.now (length c.args.out.now) c.fill-packet.result.len c.fill-packet.result.quota c.fill-packet.result.is_full c.fill-packet.new.out c.self.invariant.rest.idle (rw c.in_default.ensures.ok refl) c.fill-packet.ensures.packed in
-    omega (arith, next, c.if-number-gt-MAX_VARINT.false, c.next-number.ensures)
+    let p = packed_by _ c.args.self.now c.self.view_is (record c.self.inside.core { outbox = c.begin.new.self }) c.fill-packet.new.self c.args.want.now.first _ _ _ _ _ c.self.inside.ack_due c.self.invariant.rest.idle (rw c.in_default.ensures.ok refl) refl c.fill-packet.ensures.packed in
+    omega (arith, filled_next _ c.fill-packet.new.self c.self.inside.ack_due _ _ _ _ _ _ p, c.if-number-gt-MAX_VARINT.false, c.next-number.ensures)
 
 pub invariant_of-self-2 : goal.invariant_of-self-2
 invariant_of-self-2 c =
@@ -41,11 +43,11 @@ invariant_of-self-2 c =
 
 pub returns-clause-step : goal.returns-clause-step
 returns-clause-step c =
-    fill_some _ c.args.self.now c.self.view_is (record c.self.inside.core { outbox = c.begin.new.self }) c.fill-packet.new.self c.args.want.now (length c.args.out.now) c.fill-packet.result.len c.fill-packet.result.quota c.fill-packet.result.is_full c.fill-packet.new.out c.self.invariant.rest.idle (rw c.in_default.ensures.ok refl) c.fill-packet.ensures.packed
+    let p = packed_by _ c.args.self.now c.self.view_is (record c.self.inside.core { outbox = c.begin.new.self }) c.fill-packet.new.self c.args.want.now.first _ _ _ _ _ c.self.inside.ack_due c.self.invariant.rest.idle (rw c.in_default.ensures.ok refl) refl c.fill-packet.ensures.packed in
+    fill_some _ c.args.self.now c.self.view_is c.fill-packet.new.self c.args.want.now _ _ _ _ p (sym c.is_some.ensures ∙ c.if-is_some.false) (omega (arith, c.if-number-gt-MAX_VARINT.false, c.next-number.ensures))
     c.settle.new.self c.commit.new.self c.next-number.result c.next-number.ensures c.commit.ensures.after c.settle.ensures
-    c.token_of-token.result c.last_stream-last_stream.result c.has_more-more.result c.token_of-token.ensures c.last_stream-last_stream.ensures (rw c.may_follow.ensures at c.has_more-more.ensures)
-    (sym c.is_some.ensures ∙ c.if-is_some.false) (omega (arith, c.if-number-gt-MAX_VARINT.false, c.next-number.ensures))
-    (omega (arith, c.if-len-eq0.false)) (omega (arith, c.fill-packet.ensures.filled.filling.within, c.fill-packet.ensures.filled.room)) c.fill-packet.ensures.filled.room
+    c.token_of-token.result c.fill-packet.result.len c.last_stream-last_stream.result c.has_more-more.result c.self.invariant.rest.idle c.token_of-token.ensures c.last_stream-last_stream.ensures (rw c.may_follow.ensures at c.has_more-more.ensures)
+    (omega (arith, c.if-len-eq0.false)) (sym (length-take-le _ _ c.fill-packet.ensures.filled.filling.within)) (omega (arith, c.fill-packet.ensures.filled.filling.within, c.fill-packet.ensures.filled.room))
 
 pub returns-in-Err-clause-rest : goal.returns-in-Err-clause-rest
 returns-in-Err-clause-rest c = behind_none c.unfilled.result c.args.out.now (c.unfilled.ensures.text c.args.out.now)
@@ -61,5 +63,6 @@ returns-in-Err-clause-order c = c.unfilled.ensures.order _ _
 
 pub returns-clause-order : goal.returns-clause-order
 returns-clause-order c =
-    fill_order _ c.args.self.now c.self.view_is (record c.self.inside.core { outbox = c.begin.new.self }) c.fill-packet.new.self c.args.want.now (length c.args.out.now) c.fill-packet.result.len c.fill-packet.result.quota c.fill-packet.result.is_full c.fill-packet.new.out c.self.invariant.rest.idle (rw c.in_default.ensures.ok refl) c.fill-packet.ensures.packed
+    let p = packed_by _ c.args.self.now c.self.view_is (record c.self.inside.core { outbox = c.begin.new.self }) c.fill-packet.new.self c.args.want.now.first _ _ _ _ _ c.self.inside.ack_due c.self.invariant.rest.idle (rw c.in_default.ensures.ok refl) refl c.fill-packet.ensures.packed in
+    fill_order _ c.args.self.now c.self.view_is c.fill-packet.new.self c.args.want.now _ _ _ _ p (sym c.is_some.ensures ∙ c.if-is_some.false) (omega (arith, c.if-number-gt-MAX_VARINT.false, c.next-number.ensures))
     c.settle.new.self c.commit.new.self c.next-number.result c.next-number.ensures c.commit.ensures.after c.settle.ensures (record { token = c.token_of-token.result; len = c.fill-packet.result.len; last_stream = c.last_stream-last_stream.result; more = c.has_more-more.result }) (ap (λ (t : Token). t.number) c.token_of-token.ensures)

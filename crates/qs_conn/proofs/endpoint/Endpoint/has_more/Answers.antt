@@ -1,7 +1,7 @@
 use Rattle.std.proofs.Common.{refl}
-use Rattle.qs_machine.specs.Filling.{still_asked}
-use Rattle.qs_conn.proofs.Sendables.{wanted_is}
+use Rattle.qs_machine.specs.Filling.{WantedGoes, still_asked}
+use Rattle.qs_conn.proofs.Sendables.{tells_at}
 use Rattle.qs_conn.proofs.endpoint.Endpoint.has_more.Goals as goal
 
 pub returns : goal.returns
-returns c = wanted_is _ c.args.self.now c.self.inside.core (still_asked c.args.want.now c.args.left) c.has_wanted.result c.self.view_is refl c.has_wanted.ensures
+returns c = tells_at _ c.args.self.now c.self.inside.core c.has_wanted.result (WantedGoes (still_asked c.args.want.now c.args.left)) c.self.view_is refl c.has_wanted.ensures

@@ -1,4 +1,5 @@
-use Rattle.std.proofs.Common.{◌≡◌, ◌≤◌, ◌-◌, [], Bool, true, arith, sym, ap, subst, ◌∙◌, take, length, false, refl}
+use Rattle.std.proofs.Common.{◌≡◌, ◌≤◌, ◌-◌, [], arith, inl, inr, sym, ap, subst, ◌∙◌, take, length, false, refl}
+use Rattle.std.proofs.lemmas.Bool.{cases_Bool}
 use Rattle.qs_machine.specs.Ends.{End}
 use Rattle.qs_machine.specs.Credit.{all_sent}
 use Rattle.qs_machine.specs.Outgoing.{sent_sum}
@@ -30,14 +31,14 @@ returns-clause-packed c = λ old left parts same goes fresh.
     let sent : all_sent old ≤ old.known_data = omega (arith, sends, known, c.requires.filling.core.credit) in
     let at : end_of self begins ≡ begins = ap (λ (e : End). record e { ack_due = left }) parts in
     let text = take c.put_ack_if-len.result c.put_ack_if-len.new.out in
-    let go : (b : Bool) → wish.want.items ≡ b → Flow wish room old (take c.put_items-packet.result.len c.put_items-packet.new.out) (end_of c.put_items-packet.new.self begins) wish.want.most_bytes c.put_items-packet.result.is_full (turn_at false first first) =
-    λ b. elim b as (λ k. wish.want.items ≡ k → Flow wish room old (take c.put_items-packet.result.len c.put_items-packet.new.out) (end_of c.put_items-packet.new.self begins) wish.want.most_bytes c.put_items-packet.result.is_full (turn_at false first first)) [
-      | true ↦ λ asked. (
+    let flow : Flow wish room old (take c.put_items-packet.result.len c.put_items-packet.new.out) (end_of c.put_items-packet.new.self begins) wish.want.most_bytes c.put_items-packet.result.is_full (turn_at false first first) =
+    elim (cases_Bool wish.want.items) [
+      | inl asked ↦ (
           let begun : Begun wish room old text begins (IsPassed no_slot) = c.put_ack_if-len.ensures.begun old left asked same goes sent fresh in
           let stage : Begun wish room old text (end_of self begins) (IsPassed no_slot) = subst (λ e. Begun wish room old text e (IsPassed no_slot)) (sym at) begun in
           let items = c.put_items-packet.ensures.stage room old begins asked (sym c.put_ack_if-len.ensures.room) stage in
           flow_first first wish room old (take c.put_items-packet.result.len c.put_items-packet.new.out) (end_of c.put_items-packet.new.self begins) c.put_items-packet.result.is_full refl items)
-      | false ↦ λ unasked. (
+      | inr unasked ↦ (
           let none : wish.ack_due ≡ false = unwished wish.ack_due wish.want.items c.requires.together unasked in
           let bare : Flowing wish room old [] begins wish.want.most_bytes (turn_at false first first) = flow_bare first wish room old left refl unasked goes none sent fresh in
           let empty : text ≡ [] = ap (λ k. take k c.put_ack_if-len.new.out) (c.put_ack_if-len.ensures.none none) in
@@ -45,7 +46,6 @@ returns-clause-packed c = λ old left parts same goes fresh.
           let passed = c.put_items-packet.ensures.passed unasked in
           rw (passed.0, passed.1, passed.2) begun)
     ] in
-    let flow = go wish.want.items refl in
     c.put_streams.ensures.packed room old begins (sym (c.put_items-packet.ensures.filled.room ∙ c.put_ack_if-len.ensures.room)) flow
 
 pub returns-clause-filled : goal.returns-clause-filled

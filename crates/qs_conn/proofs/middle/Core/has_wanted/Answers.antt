@@ -1,6 +1,6 @@
-use Rattle.std.proofs.Common.{true, arith}
+use Rattle.std.proofs.Common.{true, arith, inr}
 use Rattle.qs_conn.specs.Middle.{end_of}
-use Rattle.qs_conn.proofs.Sendables.{wanted_first, wanted_then, wanted_capped, wanted_left}
+use Rattle.qs_conn.proofs.Sendables.{tells_yes, tells_or, wanted_capped, wanted_left}
 use Rattle.qs_conn.proofs.middle.Core.has_wanted.Goals as goal
 
 pub returns-then-left-eq0 : goal.returns-then-left-eq0
@@ -8,11 +8,8 @@ returns-then-left-eq0 c = λ e. wanted_capped c.args.want.now (end_of c.args.sel
 
 pub returns-then-has_wanted_stream : goal.returns-then-has_wanted_stream
 returns-then-has_wanted_stream c = λ e.
-    let there = end_of c.args.self.now e in
-    wanted_left c.args.want.now there c.args.left true (omega (arith, c.if-left-eq0.false)) (wanted_first c.args.want.now there c.has_wanted_stream.result c.if-has_wanted_stream.true (c.has_wanted_stream.ensures e))
+    wanted_left c.args.want.now (end_of c.args.self.now e) c.args.left true (omega (arith, c.if-left-eq0.false)) (inr (tells_yes _ _ c.if-has_wanted_stream.true (c.has_wanted_stream.ensures e)))
 
 pub returns : goal.returns
 returns c = λ e.
-    let there = end_of c.args.self.now e in
-    let item = c.has_wanted_item-2 in
-    wanted_left c.args.want.now there c.args.left item.result (omega (arith, c.if-left-eq0.false)) (wanted_then c.args.want.now there c.has_wanted_stream.result item.result c.if-has_wanted_stream.false (c.has_wanted_stream.ensures e) (item.ensures e))
+    wanted_left c.args.want.now (end_of c.args.self.now e) c.args.left _ (omega (arith, c.if-left-eq0.false)) (tells_or _ _ _ _ c.if-has_wanted_stream.false (c.has_wanted_stream.ensures e) (c.has_wanted_item-2.ensures e))

@@ -1,17 +1,20 @@
+use Rattle.std.proofs.Common.{◌∙◌, sym, subst, inl, inr, refl}
+use Rattle.std.proofs.lemmas.Bool.{true≢false}
+use Rattle.qs_machine.specs.Due.{StreamGoes}
 use Rattle.qs_conn.specs.Middle.{end_of}
-use Rattle.qs_conn.proofs.Sendables.{going_is, wanted_no_stream, wanted_one, wanted_near, wanted_any}
+use Rattle.qs_conn.proofs.Sendables.{tells_yes, tells_same}
 use Rattle.qs_conn.proofs.middle.Core.has_wanted_stream.Goals as goal
 
 pub returns-then-not-want : goal.returns-then-not-want
-returns-then-not-want c = λ e. wanted_no_stream c.args.want.now (end_of c.args.self.now e) c.if-not-want.true
+returns-then-not-want c = λ e (n, asked, goes). true≢false (sym asked.0 ∙ c.if-not-want.true)
 
 pub returns-then-want : goal.returns-then-want
-returns-then-want c = λ e. wanted_one c.args.want.now (end_of c.args.self.now e) c.has_bytes.result c.if-not-want.false c.if-want.true (c.has_bytes.ensures e)
+returns-then-want c = λ e.
+    tells_same c.has_bytes.result _ _ (λ goes. (c.args.want.now.first, (c.if-not-want.false, inr refl), goes))
+    (λ (n, asked, goes). elim asked.1 [ inl all ↦ absurd (true≢false (sym c.if-want.true ∙ all)) | inr is ↦ subst (StreamGoes (end_of c.args.self.now e)) is goes ]) (c.has_bytes.ensures e)
 
 pub returns : goal.returns
-returns c = λ e. wanted_any c.args.want.now (end_of c.args.self.now e) c.has_stream.result c.if-not-want.false c.if-want.false (c.has_stream.ensures e)
+returns c = λ e. tells_same c.has_stream.result _ _ (λ (n, goes). (n, (c.if-not-want.false, inl c.if-want.false), goes)) (λ (n, asked, goes). (n, goes)) (c.has_stream.ensures e)
 
 pub returns-then-has_bytes : goal.returns-then-has_bytes
-returns-then-has_bytes c = λ e.
-    let there = end_of c.args.self.now e in
-    wanted_near c.args.want.now there c.in-Some.stream c.if-not-want.false c.if-want.false (going_is there c.in-Some.stream c.has_bytes-in-Some.result c.if-has_bytes.true (c.has_bytes-in-Some.ensures e))
+returns-then-has_bytes c = λ e. (c.in-Some.stream, (c.if-not-want.false, inl c.if-want.false), tells_yes _ _ c.if-has_bytes.true (c.has_bytes-in-Some.ensures e))

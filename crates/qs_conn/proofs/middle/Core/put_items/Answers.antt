@@ -1,12 +1,12 @@
-use Rattle.std.proofs.Common.{◌∙◌, arith, sym, refl}
+use Rattle.std.proofs.Common.{rules, ◌∙◌, arith, sym, refl}
 use Rattle.std.proofs.lemmas.Bool.{true≢false}
 use Rattle.qs_wire.specs.declared.stream_id.Dir.TheVariants.{Bidi, Uni}
 use Rattle.qs_conn.specs.declared.slot.Slot.TheVariants as slots
 use Rattle.qs_conn.specs.declared.slot.Kind.TheVariants as kinds
 use Rattle.qs_conn.specs.Filling.{Passed, no_slot, and_slot, and_kind, HasPassedKinds}
-use Rattle.qs_conn.proofs.Passing.{kinds_first, kinds_limit, kinds_counts, kinds_kind, kinds_blocked, passed_first, passed_second}
+use Rattle.qs_conn.proofs.Passing.{kinds_kind, kinds_blocked, passed_first, passed_second}
 use Rattle.qs_conn.proofs.Cores.{fills_on}
-use Rattle.qs_conn.proofs.Stills.{memory_less}
+use Rattle.qs_conn.proofs.Cores.{memory_step, memory_six}
 use Rattle.qs_conn.proofs.middle.Core.put_items.Goals as goal
 
 pub returns-clause-stage : goal.returns-clause-stage
@@ -22,18 +22,18 @@ returns-clause-stage c = λ room old e asked at start.
     let p7 : Passed = and_slot p6 slots.DataBlocked in
     let p8 : Passed = and_kind p7 kinds.StreamDataBlocked in
     let p9 : Passed = and_slot p8 (slots.StreamsBlocked Bidi) in
-    let k1 : HasPassedKinds p1 1 = kinds_limit p0 kinds_first in
-    let k2 : HasPassedKinds p3 2 = kinds_counts p1 k1 in
+    let k1 : HasPassedKinds p1 1 = λ s lt. grind (arith, lt) in
+    let k2 : HasPassedKinds p3 2 = λ s lt. grind (arith, lt, k1 s) in
     let k3 : HasPassedKinds p4 3 = kinds_kind p3 kinds.ResetStream k2 in
     let k4 : HasPassedKinds p5 4 = kinds_kind p4 kinds.StopSending k3 in
     let k5 : HasPassedKinds p6 5 = kinds_kind p5 kinds.MaxStreamData k4 in
     let k6 : HasPassedKinds p7 6 = kinds_blocked p6 k5 in
     let k7 : HasPassedKinds p8 7 = kinds_kind p7 kinds.StreamDataBlocked k6 in
-    let s1 = c.put_own_slot-packet.ensures.stage wish room old e p0 at (passed_first p0 slots.MaxData refl kinds_first) start in
+    let s1 = c.put_own_slot-packet.ensures.stage wish room old e p0 at (λ s lower. grind (arith, lower)) start in
     let at1 = at ∙ sym c.put_own_slot-packet.ensures.filled.room in
     let s2 = c.put_own_slot-packet-2.ensures.stage wish room old e p1 at1 (passed_first p1 (slots.MaxStreams Bidi) refl k1) s1 in
     let at2 = at1 ∙ sym c.put_own_slot-packet-2.ensures.filled.room in
-    let s3 = c.put_own_slot-packet-3.ensures.stage wish room old e p2 at2 (passed_second p1 1 (slots.MaxStreams Uni) refl k1) s2 in
+    let s3 = c.put_own_slot-packet-3.ensures.stage wish room old e p2 at2 (λ s lower. grind (arith, lower, k1 s)) s2 in
     let at3 = at2 ∙ sym c.put_own_slot-packet-3.ensures.filled.room in
     let s4 = c.put_kind-packet.ensures.stage wish room old e p3 at3 (k2) s3 in
     let at4 = at3 ∙ sym c.put_kind-packet.ensures.filled.room in
@@ -47,7 +47,7 @@ returns-clause-stage c = λ room old e asked at start.
     let at8 = at7 ∙ sym c.put_kind-packet-4.ensures.filled.room in
     let s9 = c.put_own_slot-packet-5.ensures.stage wish room old e p8 at8 (passed_first p8 (slots.StreamsBlocked Bidi) refl k7) s8 in
     let at9 = at8 ∙ sym c.put_own_slot-packet-5.ensures.filled.room in
-    c.put_own_slot.ensures.stage wish room old e p9 at9 (passed_second p8 7 (slots.StreamsBlocked Uni) refl k7) s9
+    c.put_own_slot.ensures.stage wish room old e p9 at9 (passed_second p8 k7) s9
 
 pub returns-then-not-wish-clause-stage : goal.returns-then-not-wish-clause-stage
 returns-then-not-wish-clause-stage c = λ room old e asked at start. absurd (true≢false (sym asked ∙ c.if-not-wish.true))
@@ -68,86 +68,31 @@ returns-clause-filled c =
     fills_on _ _ _ _ _ _ _ _ _ _ _ f8 c.put_own_slot.ensures.filled
 
 pub put_own_slot-packet-requires-clause-memory : goal.put_own_slot-packet-requires-clause-memory
-put_own_slot-packet-requires-clause-memory c =
-    memory_less _ _ _ 6 1 (omega arith) c.requires.memory
+put_own_slot-packet-requires-clause-memory c = search (rules, memory_step, memory_six, c.requires.memory) depth 14
 
 pub put_own_slot-packet-requires-2-clause-memory : goal.put_own_slot-packet-requires-2-clause-memory
-put_own_slot-packet-requires-2-clause-memory c =
-    let m1 = c.put_own_slot-packet.ensures.filled.memory 6 c.requires.memory in
-    memory_less _ _ _ 5 1 (omega arith) m1
+put_own_slot-packet-requires-2-clause-memory c = search (rules, memory_step, memory_six, c.requires.memory) depth 14
 
 pub put_own_slot-packet-requires-3-clause-memory : goal.put_own_slot-packet-requires-3-clause-memory
-put_own_slot-packet-requires-3-clause-memory c =
-    let m1 = c.put_own_slot-packet.ensures.filled.memory 6 c.requires.memory in
-    let m2 = c.put_own_slot-packet-2.ensures.filled.memory 5 m1 in
-    memory_less _ _ _ 4 1 (omega arith) m2
+put_own_slot-packet-requires-3-clause-memory c = search (rules, memory_step, memory_six, c.requires.memory) depth 14
 
 pub put_kind-packet-requires-clause-memory : goal.put_kind-packet-requires-clause-memory
-put_kind-packet-requires-clause-memory c =
-    let m1 = c.put_own_slot-packet.ensures.filled.memory 6 c.requires.memory in
-    let m2 = c.put_own_slot-packet-2.ensures.filled.memory 5 m1 in
-    let m3 = c.put_own_slot-packet-3.ensures.filled.memory 4 m2 in
-    memory_less _ _ _ 3 0 (omega arith) m3
+put_kind-packet-requires-clause-memory c = search (rules, memory_step, memory_six, c.requires.memory) depth 14
 
 pub put_kind-packet-requires-2-clause-memory : goal.put_kind-packet-requires-2-clause-memory
-put_kind-packet-requires-2-clause-memory c =
-    let m1 = c.put_own_slot-packet.ensures.filled.memory 6 c.requires.memory in
-    let m2 = c.put_own_slot-packet-2.ensures.filled.memory 5 m1 in
-    let m3 = c.put_own_slot-packet-3.ensures.filled.memory 4 m2 in
-    let m4 = c.put_kind-packet.ensures.filled.memory 3 m3 in
-    memory_less _ _ _ 3 0 (omega arith) m4
+put_kind-packet-requires-2-clause-memory c = search (rules, memory_step, memory_six, c.requires.memory) depth 14
 
 pub put_kind-packet-requires-3-clause-memory : goal.put_kind-packet-requires-3-clause-memory
-put_kind-packet-requires-3-clause-memory c =
-    let m1 = c.put_own_slot-packet.ensures.filled.memory 6 c.requires.memory in
-    let m2 = c.put_own_slot-packet-2.ensures.filled.memory 5 m1 in
-    let m3 = c.put_own_slot-packet-3.ensures.filled.memory 4 m2 in
-    let m4 = c.put_kind-packet.ensures.filled.memory 3 m3 in
-    let m5 = c.put_kind-packet-2.ensures.filled.memory 3 m4 in
-    memory_less _ _ _ 3 0 (omega arith) m5
+put_kind-packet-requires-3-clause-memory c = search (memory_step, memory_six _ _ _ 3 (omega arith) c.requires.memory) depth 14 fits 20000
 
 pub put_own_slot-packet-requires-4-clause-memory : goal.put_own_slot-packet-requires-4-clause-memory
-put_own_slot-packet-requires-4-clause-memory c =
-    let m1 = c.put_own_slot-packet.ensures.filled.memory 6 c.requires.memory in
-    let m2 = c.put_own_slot-packet-2.ensures.filled.memory 5 m1 in
-    let m3 = c.put_own_slot-packet-3.ensures.filled.memory 4 m2 in
-    let m4 = c.put_kind-packet.ensures.filled.memory 3 m3 in
-    let m5 = c.put_kind-packet-2.ensures.filled.memory 3 m4 in
-    let m6 = c.put_kind-packet-3.ensures.filled.memory 3 m5 in
-    memory_less _ _ _ 3 1 (omega arith) m6
+put_own_slot-packet-requires-4-clause-memory c = search (memory_step, memory_six _ _ _ 4 (omega arith) c.requires.memory) depth 14 fits 20000
 
 pub put_kind-packet-requires-4-clause-memory : goal.put_kind-packet-requires-4-clause-memory
-put_kind-packet-requires-4-clause-memory c =
-    let m1 = c.put_own_slot-packet.ensures.filled.memory 6 c.requires.memory in
-    let m2 = c.put_own_slot-packet-2.ensures.filled.memory 5 m1 in
-    let m3 = c.put_own_slot-packet-3.ensures.filled.memory 4 m2 in
-    let m4 = c.put_kind-packet.ensures.filled.memory 3 m3 in
-    let m5 = c.put_kind-packet-2.ensures.filled.memory 3 m4 in
-    let m6 = c.put_kind-packet-3.ensures.filled.memory 3 m5 in
-    let m7 = c.put_own_slot-packet-4.ensures.filled.memory 3 m6 in
-    memory_less _ _ _ 2 0 (omega arith) m7
+put_kind-packet-requires-4-clause-memory c = search (memory_step, memory_six _ _ _ 4 (omega arith) c.requires.memory) depth 14 fits 20000
 
 pub put_own_slot-packet-requires-5-clause-memory : goal.put_own_slot-packet-requires-5-clause-memory
-put_own_slot-packet-requires-5-clause-memory c =
-    let m1 = c.put_own_slot-packet.ensures.filled.memory 6 c.requires.memory in
-    let m2 = c.put_own_slot-packet-2.ensures.filled.memory 5 m1 in
-    let m3 = c.put_own_slot-packet-3.ensures.filled.memory 4 m2 in
-    let m4 = c.put_kind-packet.ensures.filled.memory 3 m3 in
-    let m5 = c.put_kind-packet-2.ensures.filled.memory 3 m4 in
-    let m6 = c.put_kind-packet-3.ensures.filled.memory 3 m5 in
-    let m7 = c.put_own_slot-packet-4.ensures.filled.memory 3 m6 in
-    let m8 = c.put_kind-packet-4.ensures.filled.memory 2 m7 in
-    memory_less _ _ _ 2 1 (omega arith) m8
+put_own_slot-packet-requires-5-clause-memory c = search (memory_step, memory_six _ _ _ 5 (omega arith) c.requires.memory) depth 14 fits 20000
 
 pub put_own_slot-requires-clause-memory : goal.put_own_slot-requires-clause-memory
-put_own_slot-requires-clause-memory c =
-    let m1 = c.put_own_slot-packet.ensures.filled.memory 6 c.requires.memory in
-    let m2 = c.put_own_slot-packet-2.ensures.filled.memory 5 m1 in
-    let m3 = c.put_own_slot-packet-3.ensures.filled.memory 4 m2 in
-    let m4 = c.put_kind-packet.ensures.filled.memory 3 m3 in
-    let m5 = c.put_kind-packet-2.ensures.filled.memory 3 m4 in
-    let m6 = c.put_kind-packet-3.ensures.filled.memory 3 m5 in
-    let m7 = c.put_own_slot-packet-4.ensures.filled.memory 3 m6 in
-    let m8 = c.put_kind-packet-4.ensures.filled.memory 2 m7 in
-    let m9 = c.put_own_slot-packet-5.ensures.filled.memory 2 m8 in
-    m9
+put_own_slot-requires-clause-memory c = search (memory_step, memory_six _ _ _ 6 (omega arith) c.requires.memory) depth 14 fits 20000

@@ -1,12 +1,20 @@
 use Rattle.std.proofs.Common.{◌≡◌, ◌+◌, ◌∙◌, arith, sym, ap, subst, length, take}
 use Rattle.qs_conn.specs.declared.middle.Core.{Core}
 use Rattle.qs_conn.specs.Middle.{HasMemory, own_items, end_of}
-use Rattle.qs_conn.specs.Filling.{Stage, and_slot, and_kind, and_below}
-use Rattle.qs_conn.proofs.Cores.{fills_on, fills_within, fills_marks}
-use Rattle.qs_conn.proofs.Passing.{passed_below}
-use Rattle.qs_conn.proofs.Putting.{stage_fewer, stage_full, stage_idle, stage_kind, below_next}
+use Rattle.qs_conn.specs.Filling.{and_slot, and_kind, and_below}
+use Rattle.qs_conn.proofs.Cores.{fills_same, fills_on, fills_within, fills_marks}
+use Rattle.qs_conn.proofs.Passing.{passed_below, adds_first, adds_below, adds_kind, adds_next}
+use Rattle.qs_conn.proofs.Putting.{stage_more, stage_full}
 use Rattle.qs_conn.proofs.Stills.{own_kind}
 use Rattle.qs_conn.proofs.middle.Core.put_marked.Goals as goal
+
+pub loop-stream-init : goal.loop-stream-init
+loop-stream-init c =
+    record {
+      small = omega arith;
+      stage = λ wish room old e passed at kinds. stage_more wish room old (take c.args.packet.len c.args.out.now) (end_of c.args.self.now e) c.args.packet.is_full passed (and_below passed c.args.kind 0) (adds_first _ passed c.args.kind);
+      filled = fills_same c.args.self.now c.args.out.now c.args.packet.len 0 c.requires.filling;
+    }
 
 pub loop-stream-preserved : goal.loop-stream-preserved
 loop-stream-preserved c =
@@ -14,13 +22,12 @@ loop-stream-preserved c =
     record {
       small = omega (arith, c.value-from.ensures.in_range);
       stage = λ wish room old e passed at kinds start. (
-          let before = c.loop-stream.invariant.stage wish room old e passed at kinds start in
-          let here = stage_idle wish room old (take c.loop-stream.packet.len c.loop-stream.out) (end_of c.loop-stream.self e) c.loop-stream.packet.is_full passed c.args.kind c.loop-stream.from stream (λ n. c.in-Some.ensures.idle n e) before in
-          let after = c.put_slot-packet.ensures.stage wish room old e (and_below passed c.args.kind stream) (at ∙ sym c.loop-stream.invariant.filled.room) (passed_below passed c.args.kind stream c.at.result c.at.ensures kinds) here in
-          let more = stage_fewer wish room old (take c.put_slot-packet.result.len c.put_slot-packet.new.out) (end_of c.put_slot-packet.new.self e) c.put_slot-packet.result.is_full
-          (and_slot (and_below passed c.args.kind stream) c.at.result) (and_below passed c.args.kind (c.value-from.result + 1))
-          (λ s. below_next passed c.args.kind stream (c.value-from.result + 1) c.at.result s c.at.ensures (ap (λ k. k + 1) c.value-from.ensures.same)) after in
-          subst (λ (x : Core). Stage wish room old (take c.put_slot-packet.result.len c.put_slot-packet.new.out) (end_of x e) c.put_slot-packet.result.is_full (and_below passed c.args.kind (c.value-from.result + 1))) (sym c.unmark_told.ensures.same) more);
+          let before = and_below passed c.args.kind stream in
+          let here = stage_more wish room old (take c.loop-stream.packet.len c.loop-stream.out) (end_of c.loop-stream.self e) c.loop-stream.packet.is_full (and_below passed c.args.kind c.loop-stream.from) before (adds_below _ passed c.args.kind c.loop-stream.from stream (λ n. c.in-Some.ensures.idle n e)) (c.loop-stream.invariant.stage wish room old e passed at kinds start) in
+          let after = c.put_slot-packet.ensures.stage wish room old e before (at ∙ sym c.loop-stream.invariant.filled.room) (passed_below passed c.args.kind stream c.at.result c.at.ensures kinds) here in
+          rw c.unmark_told.ensures.same
+          (stage_more wish room old (take c.put_slot-packet.result.len c.put_slot-packet.new.out) (end_of c.put_slot-packet.new.self e) c.put_slot-packet.result.is_full (and_slot before c.at.result) (and_below passed c.args.kind (c.value-from.result + 1))
+          (adds_next _ passed c.args.kind stream c.value-from.result c.at.result c.at.ensures c.value-from.ensures.same) after));
       filled = (
           let none = ap own_items c.at.ensures ∙ own_kind c.args.kind stream in
           let put = fills_within _ _ _ _ _ _ _ 0 (omega (arith, none)) (fills_on _ _ _ _ _ _ _ _ _ _ _ c.loop-stream.invariant.filled c.put_slot-packet.ensures.filled) in
@@ -29,17 +36,16 @@ loop-stream-preserved c =
 
 pub returns-clause-stage : goal.returns-clause-stage
 returns-clause-stage c = λ wish room old e passed at kinds start.
-    stage_kind wish room old (take c.loop-stream.packet.len c.loop-stream.out) (end_of c.loop-stream.self e) c.loop-stream.packet.is_full passed c.args.kind c.loop-stream.from
-    (λ n le. c.in_default.ensures.idle n e le tt) (c.loop-stream.invariant.stage wish room old e passed at kinds start)
+    stage_more wish room old (take c.loop-stream.packet.len c.loop-stream.out) (end_of c.loop-stream.self e) c.loop-stream.packet.is_full (and_below passed c.args.kind c.loop-stream.from) (and_kind passed c.args.kind)
+    (adds_kind _ passed c.args.kind c.loop-stream.from (λ n le. c.in_default.ensures.idle n e le tt)) (c.loop-stream.invariant.stage wish room old e passed at kinds start)
 
 pub returns-then-packet-2-clause-stage : goal.returns-then-packet-2-clause-stage
 returns-then-packet-2-clause-stage c = λ wish room old e passed at kinds start. (
     let stream = c.in-Some.stream in
-    let before = c.loop-stream.invariant.stage wish room old e passed at kinds start in
-    let here = stage_idle wish room old (take c.loop-stream.packet.len c.loop-stream.out) (end_of c.loop-stream.self e) c.loop-stream.packet.is_full passed c.args.kind c.loop-stream.from stream (λ n. c.in-Some.ensures.idle n e) before in
-    let after = c.put_slot-packet.ensures.stage wish room old e (and_below passed c.args.kind stream) (at ∙ sym c.loop-stream.invariant.filled.room) (passed_below passed c.args.kind stream c.at.result c.at.ensures kinds) here in
-    stage_full wish room old (take c.put_slot-packet.result.len c.put_slot-packet.new.out) (end_of c.put_slot-packet.new.self e) c.put_slot-packet.result.is_full
-    (and_slot (and_below passed c.args.kind stream) c.at.result) (and_kind passed c.args.kind) c.if-packet-2.true after)
+    let before = and_below passed c.args.kind stream in
+    let here = stage_more wish room old (take c.loop-stream.packet.len c.loop-stream.out) (end_of c.loop-stream.self e) c.loop-stream.packet.is_full (and_below passed c.args.kind c.loop-stream.from) before (adds_below _ passed c.args.kind c.loop-stream.from stream (λ n. c.in-Some.ensures.idle n e)) (c.loop-stream.invariant.stage wish room old e passed at kinds start) in
+    let after = c.put_slot-packet.ensures.stage wish room old e before (at ∙ sym c.loop-stream.invariant.filled.room) (passed_below passed c.args.kind stream c.at.result c.at.ensures kinds) here in
+    stage_full wish room old (take c.put_slot-packet.result.len c.put_slot-packet.new.out) (end_of c.put_slot-packet.new.self e) c.put_slot-packet.result.is_full (and_slot before c.at.result) (and_kind passed c.args.kind) c.if-packet-2.true after)
 
 pub returns-then-packet-2-clause-filled : goal.returns-then-packet-2-clause-filled
 returns-then-packet-2-clause-filled c =

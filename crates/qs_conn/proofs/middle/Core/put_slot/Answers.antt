@@ -1,20 +1,22 @@
 use Rattle.std.proofs.Common.{take, inl}
 use Rattle.qs_conn.specs.Middle.{end_of}
 use Rattle.qs_conn.proofs.Cores.{core_item, fills_outbox}
-use Rattle.qs_conn.proofs.Putting.{stage_told, stage_put}
+use Rattle.qs_conn.specs.Filling.{and_slot}
+use Rattle.qs_conn.proofs.Passing.{adds_slot}
+use Rattle.qs_conn.proofs.Putting.{stage_more, stage_put}
 use Rattle.qs_conn.proofs.Slots.{may_tell}
 use Rattle.qs_conn.proofs.Stills.{some_end, item_spare, item_memory, memory_carried}
 use Rattle.qs_conn.proofs.Untolds.{idle_none, idle_covered}
 use Rattle.qs_conn.proofs.middle.Core.put_slot.Goals as goal
 
 pub returns-in_default-clause-stage : goal.returns-in_default-clause-stage
-returns-in_default-clause-stage c = λ wish room old e passed at before stage.
-    stage_told wish room old (take c.args.packet.len c.args.out.now) (end_of c.args.self.now e) c.args.packet.is_full passed c.args.slot (idle_none (end_of c.args.self.now e) c.args.slot (c.in_default.ensures.current e)) stage
+returns-in_default-clause-stage c = λ wish room old e passed at before.
+    stage_more wish room old (take c.args.packet.len c.args.out.now) (end_of c.args.self.now e) c.args.packet.is_full passed (and_slot passed c.args.slot) (adds_slot _ passed c.args.slot (idle_none _ c.args.slot (c.in_default.ensures.current e)))
 
 pub returns-then-has_covered-clause-stage : goal.returns-then-has_covered-clause-stage
-returns-then-has_covered-clause-stage c = λ wish room old e passed at before stage.
-    let self = c.args.self.now in
-    stage_told wish room old (take c.args.packet.len c.args.out.now) (end_of self e) c.args.packet.is_full passed c.args.slot (idle_covered (end_of self e) c.args.slot c.in-Some.item (c.in-Some.ensures.current e) (c.has_covered.ensures.yes e c.if-has_covered.true)) stage
+returns-then-has_covered-clause-stage c = λ wish room old e passed at before.
+    let idle = idle_covered (end_of c.args.self.now e) c.args.slot c.in-Some.item (c.in-Some.ensures.current e) (c.has_covered.ensures.yes e c.if-has_covered.true) in
+    stage_more wish room old (take c.args.packet.len c.args.out.now) (end_of c.args.self.now e) c.args.packet.is_full passed (and_slot passed c.args.slot) (adds_slot _ passed c.args.slot idle)
 
 pub returns-clause-stage : goal.returns-clause-stage
 returns-clause-stage c = λ wish room old e passed at before stage.

@@ -3,12 +3,12 @@ use Rattle.std.proofs.lemmas.Bool.{true≢false}
 use Rattle.qs_conn.specs.Middle.{end_of}
 use Rattle.qs_conn.specs.Filling.{Flow, turn_at, start_of}
 use Rattle.qs_conn.proofs.Cores.{fills_same, fills_on}
-use Rattle.qs_conn.proofs.Flows.{flow_idle, flow_way, flow_whole, off_way}
+use Rattle.qs_conn.proofs.Flows.{flow_idle, flow_way, off_way}
 use Rattle.qs_conn.proofs.middle.Core.put_way.Goals as goal
 
 pub returns-then-packet-clause-flow : goal.returns-then-packet-clause-flow
 returns-then-packet-clause-flow c = λ wish room old e all at start.
-    flow_whole wish room old (take c.args.packet.len c.args.out.now) (end_of c.args.self.now e) c.args.packet.quota c.args.packet.is_full c.args.around c.args.first (start_of c.args.around c.args.first) c.if-packet.true start
+    flow_way wish room old (take c.args.packet.len c.args.out.now) (end_of c.args.self.now e) c.args.packet.quota c.args.packet.is_full c.args.around c.args.first (start_of c.args.around c.args.first) (λ open_end. absurd (true≢false (sym c.if-packet.true ∙ open_end))) start
 
 pub loop-stream-init : goal.loop-stream-init
 loop-stream-init c =
@@ -40,7 +40,7 @@ loop-stream-preserved c =
 pub returns-then-not-is_on_way-clause-flow : goal.returns-then-not-is_on_way-clause-flow
 returns-then-not-is_on_way-clause-flow c = λ wish room old e all at start.
     flow_way wish room old (take c.loop-stream.packet.len c.loop-stream.out) (end_of c.loop-stream.self e) c.loop-stream.packet.quota c.loop-stream.packet.is_full c.args.around c.args.first c.loop-stream.from
-    (λ n le on. c.in-Some.ensures.none n e le (off_way c.args.around c.args.first c.loop-stream.from c.in-Some.stream n c.loop-stream.invariant.begun c.in-Some.ensures.from (λ is. true≢false (sym (c.is_on_way.ensures.1 is) ∙ c.if-not-is_on_way.true)) on))
+    (λ open_end n le on. c.in-Some.ensures.none n e le (off_way c.args.around c.args.first c.loop-stream.from c.in-Some.stream n c.loop-stream.invariant.begun c.in-Some.ensures.from (λ is. true≢false (sym (c.is_on_way.ensures.1 is) ∙ c.if-not-is_on_way.true)) on))
     (c.loop-stream.invariant.flow wish room old e all at start)
 
 pub returns-then-packet-2-clause-flow : goal.returns-then-packet-2-clause-flow
@@ -52,12 +52,12 @@ returns-then-packet-2-clause-flow c = λ wish room old e all at start. (
     let here = flow_idle wish room old (take c.loop-stream.packet.len c.loop-stream.out) (end_of c.loop-stream.self e) c.loop-stream.packet.quota c.loop-stream.packet.is_full around first c.loop-stream.from stream c.in-Some.ensures.from
     (λ n. c.in-Some.ensures.none n e) before in
     let after = c.put_chunks-packet.ensures.flow around first wish room old e (all stream) (at ∙ sym c.loop-stream.invariant.filled.room) (c.is_on_way.ensures.0 c.if-not-is_on_way.false) here in
-    flow_whole wish room old (take c.put_chunks-packet.result.len c.put_chunks-packet.new.out) (end_of c.put_chunks-packet.new.self e) c.put_chunks-packet.result.quota c.put_chunks-packet.result.is_full around first (stream + 1) c.if-packet-2.true after)
+    flow_way wish room old (take c.put_chunks-packet.result.len c.put_chunks-packet.new.out) (end_of c.put_chunks-packet.new.self e) c.put_chunks-packet.result.quota c.put_chunks-packet.result.is_full around first (stream + 1) (λ open_end. absurd (true≢false (sym c.if-packet-2.true ∙ open_end))) after)
 
 pub returns-clause-flow : goal.returns-clause-flow
 returns-clause-flow c = λ wish room old e all at start.
     flow_way wish room old (take c.loop-stream.packet.len c.loop-stream.out) (end_of c.loop-stream.self e) c.loop-stream.packet.quota c.loop-stream.packet.is_full c.args.around c.args.first c.loop-stream.from
-    (λ n le on. c.in_default.ensures.none n e le tt)
+    (λ open_end n le on. c.in_default.ensures.none n e le tt)
     (c.loop-stream.invariant.flow wish room old e all at start)
 
 pub returns-then-packet-2-clause-filled : goal.returns-then-packet-2-clause-filled
