@@ -41,6 +41,7 @@ impl Bits {
         }
     }
 
+    #[tactic(auto, using(crate::proofs::Words::flags_len))]
     pub(crate) fn len(&self) -> usize
         ensures value { result ≡ length self.now }
         ensures small { result < 2 ^ 64 }
@@ -49,6 +50,7 @@ impl Bits {
     }
 
     /// How many words they take.
+    #[tactic(auto, using(crate::proofs::Words::flags_len))]
     pub(crate) fn words(&self) -> usize
         ensures room { length self.now ≤ 64 * result }
         ensures few { result ≤ 2 ^ 58 }
@@ -100,6 +102,7 @@ impl Bits {
         self.count = count;
     }
 
+    #[tactic(auto, using(crate::proofs::Words::mark_in))]
     pub(crate) fn has(&self, index: usize) -> bool
         ensures { result ≡ is_marked self.now index }
     {
@@ -175,6 +178,7 @@ fn has_bit(word: u64, bit: usize) -> bool
     (word >> bit) & 1 == 1
 }
 
+#[tactic(auto, using(crate::proofs::Words::bits_cut))]
 fn cut_at(word: u64, bit: usize) -> u64
     requires { bit < 64 }
     ensures { IsCutAt word bit result }

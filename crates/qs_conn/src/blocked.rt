@@ -38,6 +38,7 @@ impl Model for BlockedMarks {
 }
 
 impl BlockedMarks {
+    #[tactic(auto, using(crate::proofs::ToldSearch::none_marked))]
     pub(crate) fn new(alloc: Global) -> Self
         ensures { result ≡ nothing_blocked }
     {

@@ -192,6 +192,7 @@ impl Endpoint {
     }
 
     /// How many bytes are stored: at most what was granted beyond what was consumed.
+    #[tactic(auto, using(crate::proofs::Counted::within_counted))]
     pub fn stored(&self) -> u64
         ensures exact { result ≡ all_stored self.now }
         ensures within { IsWithinCredit self.now }

@@ -416,6 +416,7 @@ impl RecvTables {
         )
     }
 
+    #[tactic(auto, using(crate::proofs::Rooms::lists_are))]
     pub(crate) fn held(&self) -> u64
         ensures { IsSumOf (IsSumOf IsRoom) (lists self.now) result }
     {

@@ -93,6 +93,7 @@ impl SendLanes {
         self.halves.len()
     }
 
+    #[tactic(auto, using(crate::proofs::Promised::promised_of, crate::proofs::Promised::sum_few))]
     pub(crate) fn promised(&self) -> u128
         ensures value { result ≡ sum_by (λ s. promised_on s.lane) self.now }
         ensures small { result ≤ 2 ^ 122 }
@@ -100,6 +101,7 @@ impl SendLanes {
         self.promised
     }
 
+    #[tactic(auto, using(crate::proofs::Promised::kept_of, crate::proofs::Promised::sum_few))]
     pub(crate) fn kept(&self) -> u128
         ensures value { result ≡ sum_by (λ s. kept_on s.lane) self.now }
         ensures small { result ≤ 2 ^ 122 }

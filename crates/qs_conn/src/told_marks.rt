@@ -95,6 +95,7 @@ impl ToldMarks {
     }
 
     /// Room up to it: memory is taken only past the last.
+    #[tactic(auto, using(crate::proofs::ToldTables::marked_beside))]
     pub(crate) fn tell(&mut self, index: usize) -> Result<(), NoMemory>
         requires { index < 2 ^ 60 }
         ensures ok { OnOk result (IsMarkedBeside index self.old self.new) }

@@ -42,6 +42,7 @@ impl UntoldLanes {
         }
     }
 
+    #[tactic(auto, using(crate::proofs::Marked::short_opened))]
     fn open_to(&mut self, count: usize) -> Result<(), NoMemory>
         requires { count ≤ 2 ^ 60 }
         ensures ok { OnOk result (self.new ≡ self.old ++ replicate (count - length self.old) false) }
@@ -72,6 +73,7 @@ impl UntoldLanes {
         self.marks.may_have()
     }
 
+    #[tactic(auto, using(crate::proofs::Marked::next_small))]
     fn next(&self, from: usize) -> Option<usize>
         ensures next { IsNextMark self.now from result }
         ensures small { IfSome result (λ n. n < 2 ^ 60) }

@@ -21,6 +21,7 @@ use qs_wire::{Dir, StreamId};
 
 impl Endpoint {
     /// A count for each direction is enough: streams of the peer open in order.
+    #[tactic(auto, using(crate::proofs::Hearing::least_opened))]
     pub(crate) fn next_opened(&self, heard: ByDir<u64>) -> Option<StreamId>
         ensures { (h : Hearing) → h.opened_bidi ≡ heard.bidi → h.opened_uni ≡ heard.uni → IsLeast (IsNextOpened self.now h) 0 result }
     {
