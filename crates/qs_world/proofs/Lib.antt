@@ -16,3 +16,4 @@ pub mod ReadCuts
 pub mod Sides
 pub mod Untold
 pub mod Rounds
+pub mod ExclusionsComes

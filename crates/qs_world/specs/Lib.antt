@@ -12,3 +12,4 @@ pub mod Places
 pub mod Buffers
 pub mod PlayText
 pub mod Examples
+pub mod ExclusionsComes

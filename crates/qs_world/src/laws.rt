@@ -1,6 +1,7 @@
 //! Laws of the definitions alone: those of runs, and of what is printed.
 
 ghost use Rattle.qs_world.specs.Examples.{Examples};
+ghost use Rattle.qs_world.specs.ExclusionsComes.{ComesExclusions};
 
 pub use qs_runs::laws::{
     acked_has_arrived, arrived_was_taken, claims_tell_nothing, event_runs_are_runs,
@@ -15,4 +16,9 @@ pub use qs_script::laws::printed_scripts_parse;
 /// A run of one step, and the lines of a report, computed by the definitions.
 pub fn examples()
     ensures { Examples }
+{}
+
+/// What the bound of a plain loop's events excludes; and that there is none where memory is refused.
+pub fn comes_exclusions()
+    ensures { ComesExclusions }
 {}

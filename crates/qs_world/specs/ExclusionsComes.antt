@@ -1,0 +1,28 @@
+-- Of laws.
+-- What the bound of a plain loop excludes, and why refused calls are left out of it. The whole file is ours.
+use Rattle.std.specs.Prelude.{◌≡◌, ℕ, false, true, [], take, Ok, Err}
+use Rattle.std.specs.List.{list_any}
+use Rattle.std.specs.FinMap as fmap
+use Rattle.std.specs.Global.{Vec}
+use Rattle.qs_calls.specs.declared.answer.Answer.TheVariants as answers
+use Rattle.qs_calls.specs.declared.closing.Received.TheVariants as received
+use Rattle.qs_machine.specs.SmallEnds.{raised}
+use Rattle.qs_progress.specs.Bound.{most}
+use Rattle.qs_world.specs.declared.world.draining.Drained.TheVariants.{UsedUp}
+use Rattle.qs_world.specs.Plays.{Played}
+use Rattle.qs_world.specs.Comes.{is_refused, ComesToRest}
+use Rattle.qs_world.specs.Draining.{DrainStep}
+
+-- two ends, each of which has a limit to tell
+abbrev pub have_more : Played
+have_more = record { log = []; ends = record { a = raised; b = raised } }
+
+pub record ComesExclusions : Type 0 where
+  -- where nothing was outstanding, and six things can be done for good, sixty-two events of which none is refused are too many
+  pub too_many : (old new : Played) → fmap.len old.ends.a.outstanding ≡ 0 → fmap.len old.ends.b.outstanding ≡ 0 → most new.ends ≡ 6 → list_any (λ x. is_refused x.1) (take 62 new.log) ≡ false → ComesToRest old 62 (Ok UsedUp) new → ⊥
+  -- a packet that isn't taken in whole counts as refused
+  pub in_part : is_refused (answers.Deliver (Ok received.NoMemory)) ≡ true
+  pub again : is_refused (answers.Deliver (Ok received.Duplicate)) ≡ true
+  pub in_whole : is_refused (answers.Deliver (Ok received.Done)) ≡ false
+  -- the premise is needed: where each packet is refused memory, and no text comes of it, a loop may use up as many events as are allowed
+  pub refused : (text : Vec ℕ) → text.items ≡ [] → (n : ℕ) → (new : Played) × DrainStep have_more n (Ok UsedUp) new
