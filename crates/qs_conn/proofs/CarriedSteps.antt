@@ -2,7 +2,7 @@
 use Rattle.std.proofs.Common.{if◌then◌else◌, ◌≡◌, ℕ, ◌%◌, ◌≤◌, ◌==◌, take, ◌↔◌, IsTrue, Bool, true, false, cond, max, ◌||◌, Option, None, Some, is_some, option_map, Result, Ok, Err, refl, sym, ap, ◌∙◌, subst, arith, inl, inr, nat_lt}
 use Rattle.std.specs.FinMap as fmap
 use Rattle.std.specs.Result.{OnErr}
-use Rattle.std.proofs.lemmas.Bool.{true≢false, eqb-true, eqb-false}
+use Rattle.std.proofs.lemmas.Bool.{true≢false, both_ways, eqb-true, eqb-false, cond_both}
 use Rattle.std.proofs.lemmas.Bool.Decides.{nat_tests}
 use Rattle.std.proofs.lemmas.Option.{same_Some}
 use Rattle.qs_recv.specs.Assembled.{discard, forget}
@@ -14,84 +14,107 @@ use Rattle.qs_send.specs.declared.parts.SendFault.TheVariants.{Finished, WasRese
 use Rattle.qs_send.specs.declared.parts.Chunk.{Chunk}
 use Rattle.qs_send.specs.declared.parts.Reset.{Reset}
 use Rattle.qs_send.specs.declared.piece.Item.{Item}
-use Rattle.qs_send.specs.declared.piece.Item.TheVariants.{MaxData, MaxStreamData, MaxStreams, ResetStream, StopSending, DataBlocked, StreamDataBlocked, StreamsBlocked}
+use Rattle.qs_send.specs.declared.piece.Item.TheVariants.{MaxData, MaxStreamData, ResetStream, StopSending, StreamDataBlocked}
 use Rattle.qs_send.specs.declared.piece.Piece.{Piece}
 use Rattle.qs_send.specs.declared.piece.Piece.TheVariants.{Data, Told}
 use Rattle.qs_machine.specs.Tables.{Tables, table, with_table, lookup, updated, no_streams, open_to, each}
 use Rattle.qs_machine.specs.Ends.{End, Records, is_own, opens, opened_by_peer}
 use Rattle.qs_machine.specs.Due.{IsCurrent, IsCovered}
-use Rattle.qs_machine.specs.Outgoing.{Outgoing, IsCarried, AreApartIn, IsAckedOut, blocked_noted, reset_noted, first_piece, first_acked_out, first_lost_out, acked_at}
+use Rattle.qs_machine.specs.Outgoing.{Outgoing, IsCarried, AreApartIn, IsAckedOut, blocked_noted, first_piece, first_acked_out, first_lost_out, acked_at}
 use Rattle.qs_machine.specs.FrameStep.{without_first}
 use Rattle.qs_machine.specs.Changes.{half_changes}
 use Rattle.qs_machine.specs.Heard.{is_told}
 use Rattle.qs_machine.proofs.LanesAgain.{window_after}
 use Rattle.qs_machine.proofs.Ties.{closed_at}
-use Rattle.qs_machine.proofs.Carried.{IsShorter, shortened_is, with_piece, first_carried}
+use Rattle.qs_machine.proofs.Carried.{IsShorter, shortened_is, with_piece}
 use Rattle.qs_conn.specs.declared.carried.Carried.{Carried}
 use Rattle.qs_conn.specs.declared.limits.Limits.{Limits}
 use Rattle.qs_conn.specs.declared.slot.Slot.TheVariants as slots
 use Rattle.qs_conn.specs.Filling.{end_by, slot_of}
 use Rattle.qs_conn.specs.Runs.{held_out}
-use Rattle.qs_conn.specs.Carried.{AreCarried, AreExact, HasPlaces, HasStop, HasRecvLimit, IsWithinRecvLimit, HasReset, HasSendLimit, IsWithinSendLimit, reset_at, places, places_to, put_mark, item_carried, carried_without, is_limit, is_same, recv_limit, limits_by, carried_below}
-use Rattle.qs_conn.proofs.Carrieds.{wide_same, wide_open, wide_by, updated_here, exact_changed, exact_fallen, exact_each, exact_piece, exact_put, exact_left, exact_gone, exact_placed, exact_opens, exact_back, exact_none, within_here, told_yes, told_no, told_same}
+use Rattle.qs_conn.specs.Carried.{AreCarried, AreExact, HasPlaces, HasStop, HasRecvLimit, IsWithinRecvLimit, HasReset, HasSendLimit, IsWithinSendLimit, reset_at, places, places_to, put_mark, item_carried, carried_without, is_limit, is_present, is_same, recv_limit, limits_by, carried_below}
+use Rattle.qs_conn.proofs.Carrieds.{IsTelling, AreTellable, marked_by, wide_same, wide_open, wide_by, exact_changed, exact_fallen, exact_each, exact_came, exact_went, exact_placed, exact_opens, exact_back, exact_none, told_here, told_same}
 use Rattle.qs_conn.proofs.Slots.{of_slot, acked_out, acked_in}
-use Rattle.qs_conn.proofs.EachItem.{each_item}
-use Rattle.qs_conn.proofs.Untolds.{outstanding_acked}
+use Rattle.qs_conn.proofs.Untolds.{outstanding_acked, updated_here}
 
--- items of one kind tell their stream and value
+-- What a piece tells of a kind of item
 
-abbrev item_n : Item → ℕ
-item_n (MaxData m) = 0
-item_n (MaxStreamData n m) = n
-item_n (MaxStreams d m) = 0
-item_n (ResetStream n code size) = n
-item_n (StopSending n code) = n
-item_n (DataBlocked m) = 0
-item_n (StreamDataBlocked n m) = n
-item_n (StreamsBlocked d m) = 0
+unfoldable stop_telling : (p : Piece) → IsTelling StopSending p
+stop_telling (Told (StopSending n code)) = inl (n, code, refl)
+stop_telling _ = inr (λ n code e. cc (e))
 
-abbrev item_v : Item → ℕ
-item_v (MaxData m) = m
-item_v (MaxStreamData n m) = m
-item_v (MaxStreams d m) = m
-item_v (ResetStream n code size) = code
-item_v (StopSending n code) = code
-item_v (DataBlocked m) = m
-item_v (StreamDataBlocked n m) = m
-item_v (StreamsBlocked d m) = m
+unfoldable limit_telling : (p : Piece) → IsTelling MaxStreamData p
+limit_telling (Told (MaxStreamData n v)) = inl (n, v, refl)
+limit_telling _ = inr (λ n v e. cc (e))
 
-abbrev item_size : Item → ℕ
-item_size (MaxData m) = 0
-item_size (MaxStreamData n m) = 0
-item_size (MaxStreams d m) = 0
-item_size (ResetStream n code size) = size
-item_size (StopSending n code) = 0
-item_size (DataBlocked m) = 0
-item_size (StreamDataBlocked n m) = 0
-item_size (StreamsBlocked d m) = 0
+unfoldable reset_telling : (p : Piece) → IsTelling reset_at p
+reset_telling (Told (ResetStream n code size)) = inl (n, record { code = code; size = size }, refl)
+reset_telling _ = inr (λ n r e. cc (e))
 
-stop_same : (n u j v : ℕ) → StopSending j v ≡ StopSending n u → (j ≡ n) × (v ≡ u)
-stop_same n u j v e = (ap item_n e, ap item_v e)
+unfoldable block_telling : (p : Piece) → IsTelling StreamDataBlocked p
+block_telling (Told (StreamDataBlocked n v)) = inl (n, v, refl)
+block_telling _ = inr (λ n v e. cc (e))
 
-limit_same : (n u j v : ℕ) → MaxStreamData j v ≡ MaxStreamData n u → (j ≡ n) × (v ≡ u)
-limit_same n u j v e = (ap item_n e, ap item_v e)
+stops_tell : AreTellable StopSending
+stops_tell n j u v e = (cc (e), cc (e))
 
-block_same : (n u j v : ℕ) → StreamDataBlocked j v ≡ StreamDataBlocked n u → (j ≡ n) × (v ≡ u)
-block_same n u j v e = (ap item_n e, ap item_v e)
+limits_tell : AreTellable MaxStreamData
+limits_tell n j u v e = (cc (e), cc (e))
 
-reset_is : (r s : Reset) → r.code ≡ s.code → r.size ≡ s.size → r ≡ s
-reset_is r s code size = ap (λ c. record { code = c; size = r.size }) code ∙ ap (λ c. record { code = s.code; size = c }) size
+resets_tell : AreTellable reset_at
+resets_tell n j r s e = (cc (e), let code : s.code ≡ r.code = cc (e) in let size : s.size ≡ r.size = cc (e) in ap (λ c. record { code = c; size = s.size }) code ∙ ap (λ c. record { code = r.code; size = c }) size)
 
-reset_same : (n : ℕ) (s : Reset) (j : ℕ) (r : Reset) → reset_at j r ≡ reset_at n s → (j ≡ n) × (r ≡ s)
-reset_same n s j r e = (ap item_n e, reset_is r s (ap item_v e) (ap item_size e))
+blocks_tell : AreTellable StreamDataBlocked
+blocks_tell n j u v e = (cc (e), cc (e))
+
+-- the marks once a piece came or went
+abbrev marked_for : Piece → Bool → Carried → Carried
+marked_for p b t =
+    record {
+      stops = marked_by StopSending p (stop_telling p) b t.stops;
+      limits = marked_by MaxStreamData p (limit_telling p) b t.limits;
+      resets = marked_by reset_at p (reset_telling p) b t.resets;
+      blocks = marked_by StreamDataBlocked p (block_telling p) b t.blocks;
+    }
+
+marked_is : (i : Item) (b : Bool) (t : Carried) → marked_for (Told i) b t ≡ item_carried i b t
+unfolding stop_telling limit_telling reset_telling block_telling
+marked_is (MaxData v) b t = refl
+marked_is _ b t = refl
+
+-- whether a piece tells the present value of its half
+abbrev is_now : Piece → Tables RecvLane → Tables SendLane → Bool
+is_now (Data n c) recvs sends = true
+is_now (Told i) recvs sends = is_present i recvs sends
+
+-- what of a half goes with a piece: an item with this value alone, or nothing
+abbrev Goes : {V : Type 0} → (Has Within : V → Type 0) → V → Bool → Type 0
+Goes {V} Has Within v b = (b ≡ true → (w : V) → Within w → Has w → w ≡ v) × (b ≡ false → Has v → ⊥)
+
+-- a value that stays as it is
+stays_goes : {V : Type 0} (o : Option V) (v : V) (b : Bool) → b ≡ true → o ≡ Some v → Goes (λ w. o ≡ Some w) (λ w. o ≡ Some w) v b
+stays_goes o v b is has = (λ on w within now. same_Some w v (sym now ∙ has), λ off. absurd (both_ways b off is))
+
+-- and one that may rise
+limit_goes : (limit v : ℕ) (b : Bool) → b ≡ (limit == v) → Goes (λ w. w ≡ limit) (λ w. w ≤ limit) v b
+limit_goes limit v b is = (λ on w within now. now ∙ eqb-true limit v (sym is ∙ on), λ off now. eqb-false limit v (sym is ∙ off) (sym now))
+
+-- A half changes, and neither its limit nor what it told stops
+
+pub record KeepsRecv (l m : RecvLane) : Type 0 where
+  pub limit : m.limit ≡ l.limit
+  pub stop : (v : ℕ) → l.stop_code ≡ Some v → m.stop_code ≡ Some v
+
+pub record KeepsSend (l m : SendLane) : Type 0 where
+  pub limit : m.limit ≡ l.limit
+  pub reset : (r : Reset) → l.was_reset ≡ Some r → m.was_reset ≡ Some r
 
 module _ (recvs : Tables RecvLane) (sends : Tables SendLane) (m : Records) (t : Carried) (h : AreCarried recvs sends m t) where
-  -- a receiving half changes, and neither its limit nor its stop
-  pub carried_recv : (now : Tables RecvLane) (n : ℕ) (f : RecvLane → RecvLane) → now ≡ updated recvs n f (lookup recvs n) → ((l : RecvLane) → (f l).limit ≡ l.limit) → ((l : RecvLane) (v : ℕ) → l.stop_code ≡ Some v → (f l).stop_code ≡ Some v) → AreCarried now sends m t
-  carried_recv now n f is limit stop =
+  pub carried_recv : (now : Tables RecvLane) (n : ℕ) (f : RecvLane → RecvLane) → now ≡ updated recvs n f (lookup recvs n) → ((l : RecvLane) → KeepsRecv l (f l)) → AreCarried now sends m t
+  carried_recv now n f is keeps =
       record {
-        stops = exact_changed StopSending HasStop HasStop recvs m t.stops h.stops now n f is (λ x v at. stop x v) (λ x v at. stop x v) (λ x v at w e. w);
-        limits = exact_changed MaxStreamData HasRecvLimit IsWithinRecvLimit recvs m t.limits h.limits now n f is (λ x v at w. subst (λ k. v ≤ k) (sym (limit x)) w) (λ x v at e. e ∙ sym (limit x)) (λ x v at w e. e ∙ limit x);
+        stops = exact_changed h.stops now n f is (λ l v there. (keeps l).stop v) (λ l v there. (keeps l).stop v) (λ l v there was e. was);
+        limits = exact_changed h.limits now n f is (λ l v there le. subst (λ k. v ≤ k) (sym (keeps l).limit) le) (λ l v there e. e ∙ sym (keeps l).limit) (λ l v there le e. e ∙ (keeps l).limit);
         resets = h.resets;
         blocks = h.blocks;
       }
@@ -100,270 +123,130 @@ module _ (recvs : Tables RecvLane) (sends : Tables SendLane) (m : Records) (t : 
   pub carried_windowed : (now : Tables RecvLane) (n w : ℕ) → now ≡ updated recvs n (λ l. set_window l w) (lookup recvs n) → (marks : Tables Bool) → marks ≡ limits_by (recv_limit recvs n) (recv_limit now n) n t.limits → AreCarried now sends m (record t { limits = marks })
   carried_windowed now n w is marks are =
       record {
-        stops = exact_changed StopSending HasStop HasStop recvs m t.stops h.stops now n (λ l. set_window l w) is (λ x v at e. e) (λ x v at e. e) (λ x v at within e. within);
-        limits = rw are (go (is_same (recv_limit recvs n) (recv_limit now n)) refl);
+        stops = exact_changed h.stops now n (λ l. set_window l w) is (λ l v there e. e) (λ l v there e. e) (λ l v there was e. e);
+        limits = rw are (cond_both rose t.limits (put_mark n false t.limits) (AreExact MaxStreamData HasRecvLimit IsWithinRecvLimit now m)
+            (λ e. exact_changed h.limits now n (λ l. set_window l w) is (λ l v there le. (let same = stood e l there in omega (arith, le, same))) (λ l v there has. has ∙ stood e l there) (λ l v there le has. has ∙ sym (stood e l there)))
+            (λ e. exact_fallen h.limits now n (λ l. set_window l w) is (λ l v there le. (let grows = (window_after l w).limit in omega (arith, le, grows)))
+            (λ l v there le has. (let grows = (window_after l w).limit in eqb-false l.limit (set_window l w).limit (sym (tested l there) ∙ e) (omega (arith, le, has, grows))))));
         resets = h.resets;
         blocks = h.blocks;
       }
     where
-      after : (x : RecvLane) → lookup recvs n ≡ Some x → recv_limit now n ≡ Some (set_window x w).limit
-      after x at = ap (λ (r : Tables RecvLane). recv_limit r n) is ∙ ap (option_map (λ (l : RecvLane). l.limit)) (updated_here recvs n (λ l. set_window l w) ∙ ap (option_map (λ l. set_window l w)) at)
+      rose : Bool
+      rose = is_same (recv_limit recvs n) (recv_limit now n)
 
-      tested : (b : Bool) → is_same (recv_limit recvs n) (recv_limit now n) ≡ b → (x : RecvLane) → lookup recvs n ≡ Some x → (x.limit == (set_window x w).limit) ≡ b
-      tested b e x at = sym (ap (λ o. is_same o (Some (set_window x w).limit)) (ap (option_map (λ (l : RecvLane). l.limit)) at)) ∙ ap (is_same (recv_limit recvs n)) (sym (after x at)) ∙ e
+      tested : (l : RecvLane) → lookup recvs n ≡ Some l → rose ≡ (l.limit == (set_window l w).limit)
+      tested l there =
+          let after : recv_limit now n ≡ Some (set_window l w).limit = ap (λ (r : Tables RecvLane). recv_limit r n) is ∙ ap (option_map (λ (l : RecvLane). l.limit)) (updated_here recvs n (λ l. set_window l w) ∙ ap (option_map (λ l. set_window l w)) there) in
+          ap (is_same (recv_limit recvs n)) after ∙ ap (λ o. is_same o (Some (set_window l w).limit)) (ap (option_map (λ (l : RecvLane). l.limit)) there)
 
-      go : (b : Bool) → is_same (recv_limit recvs n) (recv_limit now n) ≡ b → AreExact MaxStreamData HasRecvLimit IsWithinRecvLimit now m (if b then t.limits else put_mark n false t.limits)
-      go true e =
-          exact_changed MaxStreamData HasRecvLimit IsWithinRecvLimit recvs m t.limits h.limits now n (λ l. set_window l w) is (λ x v at le. subst (λ k. v ≤ k) (eqb-true x.limit (set_window x w).limit (tested true e x at)) le)
-          (λ x v at has. has ∙ eqb-true x.limit (set_window x w).limit (tested true e x at)) (λ x v at le has. has ∙ sym (eqb-true x.limit (set_window x w).limit (tested true e x at)))
-      go false e =
-          exact_fallen MaxStreamData HasRecvLimit IsWithinRecvLimit recvs m t.limits h.limits now n (λ l. set_window l w) is (λ x v at le. (let grows = (window_after x w).limit in omega (arith, le, grows)))
-          (λ x v at le has. (let grows = (window_after x w).limit in eqb-false x.limit (set_window x w).limit (tested false e x at) (omega (arith, le, has, grows))))
+      stood : rose ≡ true → (l : RecvLane) → lookup recvs n ≡ Some l → l.limit ≡ (set_window l w).limit
+      stood e l there = eqb-true l.limit (set_window l w).limit (sym (tested l there) ∙ e)
 
   -- each of them has the next limit
   pub carried_raised : (now : Tables RecvLane) (marks : Tables Bool) → now ≡ each raise recvs → AreExact MaxStreamData HasRecvLimit IsWithinRecvLimit now m marks → AreCarried now sends m (record t { limits = marks })
-  carried_raised now marks is limits = record { stops = exact_each StopSending HasStop HasStop recvs m t.stops h.stops now raise is (λ x v e. e) (λ x v e. e) (λ x v within e. within); limits = limits; resets = h.resets; blocks = h.blocks }
+  carried_raised now marks is limits = record { stops = exact_each h.stops now raise is (λ l v e. e) (λ l v e. e) (λ l v was e. e); limits = limits; resets = h.resets; blocks = h.blocks }
 
-  -- a sending half changes, and neither its limit nor its reset
-  pub carried_send : (now : Tables SendLane) (n : ℕ) (f : SendLane → SendLane) → now ≡ updated sends n f (lookup sends n) → ((l : SendLane) → (f l).limit ≡ l.limit) → ((l : SendLane) (r : Reset) → l.was_reset ≡ Some r → (f l).was_reset ≡ Some r) → AreCarried recvs now m t
-  carried_send now n f is limit kept =
+  pub carried_send : (now : Tables SendLane) (n : ℕ) (f : SendLane → SendLane) → now ≡ updated sends n f (lookup sends n) → ((l : SendLane) → KeepsSend l (f l)) → AreCarried recvs now m t
+  carried_send now n f is keeps =
       record {
         stops = h.stops;
         limits = h.limits;
-        resets = exact_changed reset_at HasReset HasReset sends m t.resets h.resets now n f is (λ x v at. kept x v) (λ x v at. kept x v) (λ x v at w e. w);
-        blocks = exact_changed StreamDataBlocked HasSendLimit IsWithinSendLimit sends m t.blocks h.blocks now n f is (λ x v at w. subst (λ k. v ≤ k) (sym (limit x)) w) (λ x v at e. e ∙ sym (limit x)) (λ x v at w e. e ∙ limit x);
+        resets = exact_changed h.resets now n f is (λ l r there. (keeps l).reset r) (λ l r there. (keeps l).reset r) (λ l r there was e. was);
+        blocks = exact_changed h.blocks now n f is (λ l v there le. subst (λ k. v ≤ k) (sym (keeps l).limit) le) (λ l v there e. e ∙ sym (keeps l).limit) (λ l v there le e. e ∙ (keeps l).limit);
       }
 
   -- the limit of one rises, or stays
   pub carried_allowed : (now : Tables SendLane) (n limit : ℕ) → now ≡ updated sends n (λ l. allow_lane l limit) (lookup sends n) → AreCarried recvs now m (carried_below n limit sends t)
-  carried_allowed now n limit is = go (half_changes (λ l. nat_lt l.limit limit) (lookup sends n)) refl
+  carried_allowed now n limit is =
+      cond_both rose (record t { blocks = put_mark n false t.blocks }) t (AreCarried recvs now m)
+      (λ e. of_blocks (put_mark n false t.blocks) (exact_fallen h.blocks now n (λ l. allow_lane l limit) is within (λ l v there le same. (let up = tested l there e in grind (arith, nat_tests, le, same, up)))))
+      (λ e. of_blocks t.blocks (exact_changed h.blocks now n (λ l. allow_lane l limit) is within (λ l v there same. stands l v same (tested l there e)) (λ l v there le same. (let stays = tested l there e in grind (arith, nat_tests, le, same, stays)))))
     where
-      resets : AreExact reset_at HasReset HasReset now m t.resets
-      resets = exact_changed reset_at HasReset HasReset sends m t.resets h.resets now n (λ l. allow_lane l limit) is (λ x v at w. w) (λ x v at e. e) (λ x v at w e. w)
+      rose : Bool
+      rose = half_changes (λ l. nat_lt l.limit limit) (lookup sends n)
 
-      rose : (b : Bool) → half_changes (λ l. nat_lt l.limit limit) (lookup sends n) ≡ b → (x : SendLane) → lookup sends n ≡ Some x → nat_lt x.limit limit ≡ b
-      rose b e x at = sym (ap (half_changes (λ (l : SendLane). nat_lt l.limit limit)) at) ∙ e
+      of_blocks : (blocks : Tables Bool) → AreExact StreamDataBlocked HasSendLimit IsWithinSendLimit now m blocks → AreCarried recvs now m (record t { blocks = blocks })
+      of_blocks blocks exact = record { stops = h.stops; limits = h.limits; resets = exact_changed h.resets now n (λ l. allow_lane l limit) is (λ l r there e. e) (λ l r there e. e) (λ l r there was e. e); blocks = exact }
 
-      go : (b : Bool) → half_changes (λ l. nat_lt l.limit limit) (lookup sends n) ≡ b → AreCarried recvs now m (if b then record t { blocks = put_mark n false t.blocks } else t)
-      go true e =
-          record {
-            stops = h.stops;
-            limits = h.limits;
-            resets = resets;
-            blocks = exact_fallen StreamDataBlocked HasSendLimit IsWithinSendLimit sends m t.blocks h.blocks now n (λ l. allow_lane l limit) is (λ x v at w. (let le : v ≤ max x.limit limit = omega (arith, w) in le)) (λ x v at w same. (let up = rose true e x at in grind (arith, nat_tests, w, same, up)));
-          }
-      go false e =
-          record {
-            stops = h.stops;
-            limits = h.limits;
-            resets = resets;
-            blocks =
-                exact_changed StreamDataBlocked HasSendLimit IsWithinSendLimit sends m t.blocks h.blocks now n (λ l. allow_lane l limit) is (λ x v at w. (let le : v ≤ max x.limit limit = omega (arith, w) in le))
-                (λ x v at same. (let no = rose false e x at in let is_now : v ≡ max x.limit limit = grind (arith, nat_tests, same, no) in is_now))
-                (λ x v at w same. (let no = rose false e x at in grind (arith, nat_tests, same, no)));
-          }
+      tested : (l : SendLane) → lookup sends n ≡ Some l → {b : Bool} → rose ≡ b → nat_lt l.limit limit ≡ b
+      tested l there e = sym (ap (half_changes (λ (l : SendLane). nat_lt l.limit limit)) there) ∙ e
 
-  -- Pieces come
+      within : (l : SendLane) (v : ℕ) → lookup sends n ≡ Some l → v ≤ l.limit → v ≤ max l.limit limit
+      within l v there le = omega (arith, le)
+
+      stands : (l : SendLane) (v : ℕ) → v ≡ l.limit → nat_lt l.limit limit ≡ false → v ≡ max l.limit limit
+      stands l v same stays = grind (arith, nat_tests, same, stays)
+
+  -- A piece comes, with the present item of a half if with one
+
+  carried_came : (k : ℕ) (p : Piece) → ((n v : ℕ) → p ≡ Told (StopSending n v) → (l : RecvLane) × (lookup recvs n ≡ Some l) × HasStop l v × HasStop l v) → ((n v : ℕ) → p ≡ Told (MaxStreamData n v) → (l : RecvLane) × (lookup recvs n ≡ Some l) × HasRecvLimit l v × IsWithinRecvLimit l v)
+      → ((n : ℕ) (r : Reset) → p ≡ Told (reset_at n r) → (l : SendLane) × (lookup sends n ≡ Some l) × HasReset l r × HasReset l r) → ((n v : ℕ) → p ≡ Told (StreamDataBlocked n v) → (l : SendLane) × (lookup sends n ≡ Some l) × HasSendLimit l v × IsWithinSendLimit l v)
+      → AreCarried recvs sends (with_piece m k p) (marked_for p true t)
+  carried_came k p stop limit reset block =
+      record {
+        stops = exact_came h.stops k p (stop_telling p) stops_tell stop;
+        limits = exact_came h.limits k p (limit_telling p) limits_tell limit;
+        resets = exact_came h.resets k p (reset_telling p) resets_tell reset;
+        blocks = exact_came h.blocks k p (block_telling p) blocks_tell block;
+      }
 
   pub carried_chunk : (k n : ℕ) (c : Chunk) → AreCarried recvs sends (with_piece m k (Data n c)) t
-  carried_chunk k n c =
-      record {
-        stops = exact_piece StopSending HasStop HasStop recvs m t.stops h.stops k (Data n c) (λ j v e. absurd (cc (e)));
-        limits = exact_piece MaxStreamData HasRecvLimit IsWithinRecvLimit recvs m t.limits h.limits k (Data n c) (λ j v e. absurd (cc (e)));
-        resets = exact_piece reset_at HasReset HasReset sends m t.resets h.resets k (Data n c) (λ j v e. absurd (cc (e)));
-        blocks = exact_piece StreamDataBlocked HasSendLimit IsWithinSendLimit sends m t.blocks h.blocks k (Data n c) (λ j v e. absurd (cc (e)));
-      }
-
-  own_put : (k : ℕ) (i : Item) → ((j v : ℕ) → StopSending j v ≡ i → ⊥) → ((j v : ℕ) → MaxStreamData j v ≡ i → ⊥) → ((j : ℕ) (r : Reset) → reset_at j r ≡ i → ⊥) → ((j v : ℕ) → StreamDataBlocked j v ≡ i → ⊥) → AreCarried recvs sends (with_piece m k (Told i)) t
-  own_put k i a l b d =
-      record {
-        stops = exact_piece StopSending HasStop HasStop recvs m t.stops h.stops k (Told i) (λ j v e. a j v (told_same (StopSending j v) i e));
-        limits = exact_piece MaxStreamData HasRecvLimit IsWithinRecvLimit recvs m t.limits h.limits k (Told i) (λ j v e. l j v (told_same (MaxStreamData j v) i e));
-        resets = exact_piece reset_at HasReset HasReset sends m t.resets h.resets k (Told i) (λ j r e. b j r (told_same (reset_at j r) i e));
-        blocks = exact_piece StreamDataBlocked HasSendLimit IsWithinSendLimit sends m t.blocks h.blocks k (Told i) (λ j v e. d j v (told_same (StreamDataBlocked j v) i e));
-      }
-
-  stop_put : (k n code : ℕ) (x : RecvLane) → lookup recvs n ≡ Some x → x.stop_code ≡ Some code → AreCarried recvs sends (with_piece m k (Told (StopSending n code))) (record t { stops = put_mark n true t.stops })
-  stop_put k n code x there has =
-      record {
-        stops = exact_put StopSending HasStop HasStop recvs m t.stops h.stops k n code (stop_same n code) x there has has;
-        limits = exact_piece MaxStreamData HasRecvLimit IsWithinRecvLimit recvs m t.limits h.limits k (Told (StopSending n code)) (λ j u e. absurd (cc (e)));
-        resets = exact_piece reset_at HasReset HasReset sends m t.resets h.resets k (Told (StopSending n code)) (λ j r e. absurd (cc (e)));
-        blocks = exact_piece StreamDataBlocked HasSendLimit IsWithinSendLimit sends m t.blocks h.blocks k (Told (StopSending n code)) (λ j v e. absurd (cc (e)));
-      }
-
-  limit_put : (k n v : ℕ) (x : RecvLane) → lookup recvs n ≡ Some x → v ≡ x.limit → AreCarried recvs sends (with_piece m k (Told (MaxStreamData n v))) (record t { limits = put_mark n true t.limits })
-  limit_put k n v x there has =
-      record {
-        stops = exact_piece StopSending HasStop HasStop recvs m t.stops h.stops k (Told (MaxStreamData n v)) (λ j u e. absurd (cc (e)));
-        limits = exact_put MaxStreamData HasRecvLimit IsWithinRecvLimit recvs m t.limits h.limits k n v (limit_same n v) x there has (omega (arith, has));
-        resets = exact_piece reset_at HasReset HasReset sends m t.resets h.resets k (Told (MaxStreamData n v)) (λ j r e. absurd (cc (e)));
-        blocks = exact_piece StreamDataBlocked HasSendLimit IsWithinSendLimit sends m t.blocks h.blocks k (Told (MaxStreamData n v)) (λ j u e. absurd (cc (e)));
-      }
-
-  reset_put : (k n : ℕ) (r : Reset) (x : SendLane) → lookup sends n ≡ Some x → x.was_reset ≡ Some r → AreCarried recvs sends (with_piece m k (Told (reset_at n r))) (record t { resets = put_mark n true t.resets })
-  reset_put k n r x there has =
-      record {
-        stops = exact_piece StopSending HasStop HasStop recvs m t.stops h.stops k (Told (reset_at n r)) (λ j v e. absurd (cc (e)));
-        limits = exact_piece MaxStreamData HasRecvLimit IsWithinRecvLimit recvs m t.limits h.limits k (Told (reset_at n r)) (λ j u e. absurd (cc (e)));
-        resets = exact_put reset_at HasReset HasReset sends m t.resets h.resets k n r (reset_same n r) x there has has;
-        blocks = exact_piece StreamDataBlocked HasSendLimit IsWithinSendLimit sends m t.blocks h.blocks k (Told (reset_at n r)) (λ j v e. absurd (cc (e)));
-      }
-
-  block_put : (k n v : ℕ) (x : SendLane) → lookup sends n ≡ Some x → v ≡ x.limit → AreCarried recvs sends (with_piece m k (Told (StreamDataBlocked n v))) (record t { blocks = put_mark n true t.blocks })
-  block_put k n v x there has =
-      record {
-        stops = exact_piece StopSending HasStop HasStop recvs m t.stops h.stops k (Told (StreamDataBlocked n v)) (λ j u e. absurd (cc (e)));
-        limits = exact_piece MaxStreamData HasRecvLimit IsWithinRecvLimit recvs m t.limits h.limits k (Told (StreamDataBlocked n v)) (λ j u e. absurd (cc (e)));
-        resets = exact_piece reset_at HasReset HasReset sends m t.resets h.resets k (Told (StreamDataBlocked n v)) (λ j r e. absurd (cc (e)));
-        blocks = exact_put StreamDataBlocked HasSendLimit IsWithinSendLimit sends m t.blocks h.blocks k n v (block_same n v) x there has (omega (arith, has));
-      }
+  unfolding stop_telling limit_telling reset_telling block_telling
+  carried_chunk k n c = carried_came k (Data n c) (λ j v e. absurd (cc (e))) (λ j v e. absurd (cc (e))) (λ j v e. absurd (cc (e))) (λ j v e. absurd (cc (e)))
 
   -- The first piece of a packet leaves it
 
-  module _ (m' : Records) (k : ℕ) (p : Piece) (short : IsShorter m k p m') (apart : AreApartIn m) where
-    other_left : ((j v : ℕ) → Told (StopSending j v) ≡ p → ⊥) → ((j v : ℕ) → Told (MaxStreamData j v) ≡ p → ⊥) → ((j : ℕ) (r : Reset) → Told (reset_at j r) ≡ p → ⊥) → ((j v : ℕ) → Told (StreamDataBlocked j v) ≡ p → ⊥) → AreCarried recvs sends m' t
-    other_left a l b d =
-        record {
-          stops = exact_left StopSending HasStop HasStop recvs m t.stops h.stops m' k p short apart (λ j v x there has e. a j v e);
-          limits = exact_left MaxStreamData HasRecvLimit IsWithinRecvLimit recvs m t.limits h.limits m' k p short apart (λ j v x there has e. l j v e);
-          resets = exact_left reset_at HasReset HasReset sends m t.resets h.resets m' k p short apart (λ j r x there has e. b j r e);
-          blocks = exact_left StreamDataBlocked HasSendLimit IsWithinSendLimit sends m t.blocks h.blocks m' k p short apart (λ j v x there has e. d j v e);
-        }
-
-    stop_left : (n code : ℕ) → p ≡ Told (StopSending n code) → AreCarried recvs sends m' (record t { stops = put_mark n false t.stops })
-    stop_left n code is =
-        record {
-          stops =
-              exact_gone StopSending HasStop HasStop recvs m t.stops h.stops m' k p short apart n code is (stop_same n code)
-              (λ x v there within has. same_Some v code (sym has ∙ within_here StopSending HasStop HasStop recvs m t.stops h.stops n x code there (subst (IsCarried m) is (first_carried m m' k p short))));
-          limits = exact_left MaxStreamData HasRecvLimit IsWithinRecvLimit recvs m t.limits h.limits m' k p short apart (λ j u x there has e. absurd (cc (e, is)));
-          resets = exact_left reset_at HasReset HasReset sends m t.resets h.resets m' k p short apart (λ j r x there has e. absurd (cc (e, is)));
-          blocks = exact_left StreamDataBlocked HasSendLimit IsWithinSendLimit sends m t.blocks h.blocks m' k p short apart (λ j v x there has e. absurd (cc (e, is)));
-        }
-
-    reset_left : (n : ℕ) (r : Reset) → p ≡ Told (reset_at n r) → AreCarried recvs sends m' (record t { resets = put_mark n false t.resets })
-    reset_left n r is =
-        record {
-          stops = exact_left StopSending HasStop HasStop recvs m t.stops h.stops m' k p short apart (λ j v x there has e. absurd (cc (e, is)));
-          limits = exact_left MaxStreamData HasRecvLimit IsWithinRecvLimit recvs m t.limits h.limits m' k p short apart (λ j u x there has e. absurd (cc (e, is)));
-          resets =
-              exact_gone reset_at HasReset HasReset sends m t.resets h.resets m' k p short apart n r is (reset_same n r)
-              (λ x v there within has. same_Some v r (sym has ∙ within_here reset_at HasReset HasReset sends m t.resets h.resets n x r there (subst (IsCarried m) is (first_carried m m' k p short))));
-          blocks = exact_left StreamDataBlocked HasSendLimit IsWithinSendLimit sends m t.blocks h.blocks m' k p short apart (λ j v x there has e. absurd (cc (e, is)));
-        }
-
-    limit_left : (n v : ℕ) → p ≡ Told (MaxStreamData n v) → AreCarried recvs sends m' (if is_limit (option_map (λ (l : RecvLane). l.limit) (lookup recvs n)) v then record t { limits = put_mark n false t.limits } else t)
-    limit_left n v is = go (is_limit (option_map (λ (l : RecvLane). l.limit) (lookup recvs n)) v) refl
+  module _ (m' : Records) (k : ℕ) (apart : AreApartIn m) where
+    carried_went : (p : Piece) → IsShorter m k p m' → (b : Bool) → b ≡ is_now p recvs sends → AreCarried recvs sends m' (if b then marked_for p false t else t)
+    carried_went p short b now =
+        by_flag b (record {
+          stops = exact_went h.stops m' k p short apart (stop_telling p) stops_tell b (λ n v l is there has. stays_goes l.stop_code v b (now ∙ ap (λ q. is_now q recvs sends) is) has);
+          limits = exact_went h.limits m' k p short apart (limit_telling p) limits_tell b (λ n v l is there le. limit_goes l.limit v b (now ∙ ap (λ q. is_now q recvs sends) is ∙ ap (λ (o : Option RecvLane). is_limit (option_map (λ (l : RecvLane). l.limit) o) v) there));
+          resets = exact_went h.resets m' k p short apart (reset_telling p) resets_tell b (λ n r l is there has. stays_goes l.was_reset r b (now ∙ ap (λ q. is_now q recvs sends) is) has);
+          blocks = exact_went h.blocks m' k p short apart (block_telling p) blocks_tell b (λ n v l is there le. limit_goes l.limit v b (now ∙ ap (λ q. is_now q recvs sends) is ∙ ap (λ (o : Option SendLane). is_limit (option_map (λ (l : SendLane). l.limit) o) v) there));
+        })
       where
-        stops : AreExact StopSending HasStop HasStop recvs m' t.stops
-        stops = exact_left StopSending HasStop HasStop recvs m t.stops h.stops m' k p short apart (λ j u x there has e. absurd (cc (e, is)))
+        u : Carried
+        u = marked_for p false t
 
-        blocks : AreExact StreamDataBlocked HasSendLimit IsWithinSendLimit sends m' t.blocks
-        blocks = exact_left StreamDataBlocked HasSendLimit IsWithinSendLimit sends m t.blocks h.blocks m' k p short apart (λ j u x there has e. absurd (cc (e, is)))
+        by_flag : (b : Bool) → AreCarried recvs sends m' (record { stops = if b then u.stops else t.stops; limits = if b then u.limits else t.limits; resets = if b then u.resets else t.resets; blocks = if b then u.blocks else t.blocks }) → AreCarried recvs sends m' (if b then u else t)
+        by_flag true is = is
+        by_flag false is = is
 
-        resets : AreExact reset_at HasReset HasReset sends m' t.resets
-        resets = exact_left reset_at HasReset HasReset sends m t.resets h.resets m' k p short apart (λ j r x there has e. absurd (cc (e, is)))
-
-        tested : (b : Bool) → is_limit (option_map (λ (l : RecvLane). l.limit) (lookup recvs n)) v ≡ b → (x : RecvLane) → lookup recvs n ≡ Some x → (x.limit == v) ≡ b
-        tested b e x at = sym (ap (λ (o : Option RecvLane). is_limit (option_map (λ (l : RecvLane). l.limit) o) v) at) ∙ e
-
-        go : (b : Bool) → is_limit (option_map (λ (l : RecvLane). l.limit) (lookup recvs n)) v ≡ b → AreCarried recvs sends m' (if b then record t { limits = put_mark n false t.limits } else t)
-        go true e =
-            record {
-              stops = stops;
-              resets = resets;
-              blocks = blocks;
-              limits = exact_gone MaxStreamData HasRecvLimit IsWithinRecvLimit recvs m t.limits h.limits m' k p short apart n v is (limit_same n v) (λ x u there within has. has ∙ eqb-true x.limit v (tested true e x there));
-            }
-        go false e =
-            record {
-              stops = stops;
-              resets = resets;
-              blocks = blocks;
-              limits =
-                  exact_left MaxStreamData HasRecvLimit IsWithinRecvLimit recvs m t.limits h.limits m' k p short apart
-                  (λ j u x there has out. (let same = limit_same n v j u (told_same (MaxStreamData j u) (MaxStreamData n v) (out ∙ is)) in eqb-false x.limit v (tested false e x (subst (λ q. lookup recvs q ≡ Some x) same.0 there)) (sym has ∙ same.1)));
-            }
-
-    block_left : (n v : ℕ) → p ≡ Told (StreamDataBlocked n v) → AreCarried recvs sends m' (if is_limit (option_map (λ (l : SendLane). l.limit) (lookup sends n)) v then record t { blocks = put_mark n false t.blocks } else t)
-    block_left n v is = go (is_limit (option_map (λ (l : SendLane). l.limit) (lookup sends n)) v) refl
-      where
-        stops : AreExact StopSending HasStop HasStop recvs m' t.stops
-        stops = exact_left StopSending HasStop HasStop recvs m t.stops h.stops m' k p short apart (λ j u x there has e. absurd (cc (e, is)))
-
-        limits : AreExact MaxStreamData HasRecvLimit IsWithinRecvLimit recvs m' t.limits
-        limits = exact_left MaxStreamData HasRecvLimit IsWithinRecvLimit recvs m t.limits h.limits m' k p short apart (λ j u x there has e. absurd (cc (e, is)))
-
-        resets : AreExact reset_at HasReset HasReset sends m' t.resets
-        resets = exact_left reset_at HasReset HasReset sends m t.resets h.resets m' k p short apart (λ j r x there has e. absurd (cc (e, is)))
-
-        tested : (b : Bool) → is_limit (option_map (λ (l : SendLane). l.limit) (lookup sends n)) v ≡ b → (x : SendLane) → lookup sends n ≡ Some x → (x.limit == v) ≡ b
-        tested b e x at = sym (ap (λ (o : Option SendLane). is_limit (option_map (λ (l : SendLane). l.limit) o) v) at) ∙ e
-
-        go : (b : Bool) → is_limit (option_map (λ (l : SendLane). l.limit) (lookup sends n)) v ≡ b → AreCarried recvs sends m' (if b then record t { blocks = put_mark n false t.blocks } else t)
-        go true e =
-            record {
-              stops = stops;
-              limits = limits;
-              resets = resets;
-              blocks = exact_gone StreamDataBlocked HasSendLimit IsWithinSendLimit sends m t.blocks h.blocks m' k p short apart n v is (block_same n v) (λ x u there within has. has ∙ eqb-true x.limit v (tested true e x there));
-            }
-        go false e =
-            record {
-              stops = stops;
-              limits = limits;
-              resets = resets;
-              blocks =
-                  exact_left StreamDataBlocked HasSendLimit IsWithinSendLimit sends m t.blocks h.blocks m' k p short apart
-                  (λ j u x there has out. (let same = block_same n v j u (told_same (StreamDataBlocked j u) (StreamDataBlocked n v) (out ∙ is)) in eqb-false x.limit v (tested false e x (subst (λ q. lookup sends q ≡ Some x) same.0 there)) (sym has ∙ same.1)));
-            }
-
-    pub carried_gone : AreCarried recvs sends m' (carried_without p recvs sends t)
-    carried_gone = go p refl
-      where
-        go : (q : Piece) → p ≡ q → AreCarried recvs sends m' (carried_without q recvs sends t)
-        go (Data n c) is = other_left (λ j v e. absurd (cc (e, is))) (λ j v e. absurd (cc (e, is))) (λ j v e. absurd (cc (e, is))) (λ j v e. absurd (cc (e, is)))
-        go (Told i) is =
-            each_item (λ j. p ≡ Told j → AreCarried recvs sends m' (carried_without (Told j) recvs sends t))
-            (λ v at. other_left (λ j w e. absurd (cc (e, at))) (λ j w e. absurd (cc (e, at))) (λ j w e. absurd (cc (e, at))) (λ j w e. absurd (cc (e, at))))
-            (λ n v at. limit_left n v at)
-            (λ d v at. other_left (λ j w e. absurd (cc (e, at))) (λ j w e. absurd (cc (e, at))) (λ j w e. absurd (cc (e, at))) (λ j w e. absurd (cc (e, at))))
-            (λ n code size at. reset_left n (record { code = code; size = size }) at)
-            (λ n code at. stop_left n code at)
-            (λ v at. other_left (λ j w e. absurd (cc (e, at))) (λ j w e. absurd (cc (e, at))) (λ j w e. absurd (cc (e, at))) (λ j w e. absurd (cc (e, at))))
-            (λ n v at. block_left n v at)
-            (λ d v at. other_left (λ j w e. absurd (cc (e, at))) (λ j w e. absurd (cc (e, at))) (λ j w e. absurd (cc (e, at))) (λ j w e. absurd (cc (e, at))))
-            i is
+    pub carried_gone : (p : Piece) → IsShorter m k p m' → AreCarried recvs sends m' (carried_without p recvs sends t)
+    unfolding stop_telling limit_telling reset_telling block_telling
+    carried_gone (Data n c) short = carried_went (Data n c) short true refl
+    carried_gone (Told i) short = subst (λ u. AreCarried recvs sends m' (if is_present i recvs sends then u else t)) (marked_is i false t) (carried_went (Told i) short (is_present i recvs sends) refl)
 
   -- Streams open
 
   pub carried_placed : (u : Carried) → HasPlaces t u → AreCarried recvs sends m u
   carried_placed u wide =
       record {
-        stops = exact_placed StopSending HasStop HasStop recvs m t.stops h.stops u.stops wide.stops;
-        limits = exact_placed MaxStreamData HasRecvLimit IsWithinRecvLimit recvs m t.limits h.limits u.limits wide.limits;
-        resets = exact_placed reset_at HasReset HasReset sends m t.resets h.resets u.resets wide.resets;
-        blocks = exact_placed StreamDataBlocked HasSendLimit IsWithinSendLimit sends m t.blocks h.blocks u.blocks wide.blocks;
+        stops = exact_placed h.stops u.stops wide.stops;
+        limits = exact_placed h.limits u.limits wide.limits;
+        resets = exact_placed h.resets u.resets wide.resets;
+        blocks = exact_placed h.blocks u.blocks wide.blocks;
       }
 
   pub carried_opened : (n : ℕ) (no_recv no_send : Bool) (now : Tables RecvLane) (nows : Tables SendLane) (f : ℕ → RecvLane) (g : ℕ → SendLane) → now ≡ cond no_recv recvs (open_to recvs n f) → nows ≡ cond no_send sends (open_to sends n g) → AreCarried now nows m (places_to n t)
   carried_opened n no_recv no_send now nows f g is are =
       record {
-        stops = exact_opens StopSending HasStop HasStop recvs m t.stops h.stops n no_recv now f is;
-        limits = exact_opens MaxStreamData HasRecvLimit IsWithinRecvLimit recvs m t.limits h.limits n no_recv now f is;
-        resets = exact_opens reset_at HasReset HasReset sends m t.resets h.resets n no_send nows g are;
-        blocks = exact_opens StreamDataBlocked HasSendLimit IsWithinSendLimit sends m t.blocks h.blocks n no_send nows g are;
+        stops = exact_opens h.stops n no_recv now f is;
+        limits = exact_opens h.limits n no_recv now f is;
+        resets = exact_opens h.resets n no_send nows g are;
+        blocks = exact_opens h.blocks n no_send nows g are;
       }
 
   -- and are taken back
   pub carried_back : (now : Tables RecvLane) (nows : Tables SendLane) (u : Carried) → AreCarried now nows m u → ((n : ℕ) (x : RecvLane) → lookup now n ≡ Some x → lookup recvs n ≡ Some x) → ((n : ℕ) (x : SendLane) → lookup nows n ≡ Some x → lookup sends n ≡ Some x) → AreCarried now nows m t
   carried_back now nows u was fewer less =
       record {
-        stops = exact_back StopSending HasStop HasStop recvs m t.stops h.stops now u.stops was.stops fewer;
-        limits = exact_back MaxStreamData HasRecvLimit IsWithinRecvLimit recvs m t.limits h.limits now u.limits was.limits fewer;
-        resets = exact_back reset_at HasReset HasReset sends m t.resets h.resets nows u.resets was.resets less;
-        blocks = exact_back StreamDataBlocked HasSendLimit IsWithinSendLimit sends m t.blocks h.blocks nows u.blocks was.blocks less;
+        stops = exact_back h.stops now u.stops was.stops fewer;
+        limits = exact_back h.limits now u.limits was.limits fewer;
+        resets = exact_back h.resets nows u.resets was.resets less;
+        blocks = exact_back h.blocks nows u.blocks was.blocks less;
       }
 
 -- as lanes of a type from a count on are taken away
@@ -396,23 +279,24 @@ wide_last n t a b c d stops limits resets same = record { stops = wide_by n t.st
 
 -- what is acknowledged leaves limits and resets as they are
 pub carried_noted : (late : Bool) (k : ℕ) (p : Piece) (o : Outgoing) (recvs : Tables RecvLane) (m : Records) (t : Carried) → AreCarried recvs o.sends m t → AreCarried recvs (first_acked_out (acked_at late k p) o).sends m t
-carried_noted late k (Data n c) o recvs m t h = carried_send recvs o.sends m t h _ n (λ l. acked_lane l c) refl (λ l. refl) (λ l r e. e)
-carried_noted late k (Told i) o recvs m t h =
-    each_item (λ j. AreCarried recvs (reset_noted j o.sends) m t) (λ v. h) (λ n v. h) (λ d v. h) (λ n code size. carried_send recvs o.sends m t h _ n reset_acked_lane refl (λ l. refl) (λ l r e. e)) (λ n code. h) (λ v. h) (λ n v. h) (λ d v. h) i
+carried_noted late k (Data n c) o recvs m t h = carried_send recvs o.sends m t h _ n (λ l. acked_lane l c) refl (λ l. record { limit = refl; reset = λ r e. e })
+carried_noted late k (Told (ResetStream n code size)) o recvs m t h = carried_send recvs o.sends m t h _ n reset_acked_lane refl (λ l. record { limit = refl; reset = λ r e. e })
+carried_noted late k (Told _) o recvs m t h = h
 
 -- a current item goes into a packet
 pub carried_put : (l : Limits) (recvs : Tables RecvLane) (o : Outgoing) (e : End) (t : Carried) → AreCarried recvs o.sends o.outstanding t → (i : Item) → IsCurrent (end_by l recvs o e) i → AreCarried recvs (blocked_noted i o.sends) (with_piece o.outstanding o.next (Told i)) (item_carried i true t)
 carried_put l recvs o e t h i current =
-    each_item (λ j. IsCurrent (end_by l recvs o e) j → AreCarried recvs (blocked_noted j o.sends) (with_piece o.outstanding o.next (Told j)) (item_carried j true t))
-    (λ v is. own_put recvs o.sends o.outstanding t h o.next (MaxData v) (λ j w e. absurd (cc (e))) (λ j w e. absurd (cc (e))) (λ j w e. absurd (cc (e))) (λ j w e. absurd (cc (e))))
-    (λ n v (x, there, has, above, unsized). limit_put recvs o.sends o.outstanding t h o.next n v x there has)
-    (λ d v is. own_put recvs o.sends o.outstanding t h o.next (MaxStreams d v) (λ j w e. absurd (cc (e))) (λ j w e. absurd (cc (e))) (λ j w e. absurd (cc (e))) (λ j w e. absurd (cc (e))))
-    (λ n code size (x, there, has). reset_put recvs o.sends o.outstanding t h o.next n (record { code = code; size = size }) x there has)
-    (λ n code (x, there, has, goes, part). stop_put recvs o.sends o.outstanding t h o.next n code x there has)
-    (λ v is. own_put recvs o.sends o.outstanding t h o.next (DataBlocked v) (λ j w e. absurd (cc (e))) (λ j w e. absurd (cc (e))) (λ j w e. absurd (cc (e))) (λ j w e. absurd (cc (e))))
-    (λ n v (x, there, none, has, more, sent). carried_send recvs o.sends (with_piece o.outstanding o.next (Told (StreamDataBlocked n v))) (record t { blocks = put_mark n true t.blocks }) (block_put recvs o.sends o.outstanding t h o.next n v x there has) _ n blocked_lane refl (λ l. refl) (λ l r e. e))
-    (λ d v is. own_put recvs o.sends o.outstanding t h o.next (StreamsBlocked d v) (λ j w e. absurd (cc (e))) (λ j w e. absurd (cc (e))) (λ j w e. absurd (cc (e))) (λ j w e. absurd (cc (e))))
-    i current
+    blocked i (with_piece o.outstanding o.next (Told i)) (item_carried i true t)
+    (subst (AreCarried recvs o.sends (with_piece o.outstanding o.next (Told i))) (marked_is i true t)
+    (carried_came recvs o.sends o.outstanding t h o.next (Told i) (λ n v is. (let (x, there, has, goes, part) = now (StopSending n v) is in (x, there, has, has))) (λ n v is. (let (x, there, has, above, unsized) = now (MaxStreamData n v) is in (x, there, has, omega (arith, has))))
+    (λ n r is. (let (x, there, has) = now (reset_at n r) is in (x, there, has, has))) (λ n v is. (let (x, there, none, has, more, sent) = now (StreamDataBlocked n v) is in (x, there, has, omega (arith, has))))))
+  where
+    now : (j : Item) → Told i ≡ Told j → IsCurrent (end_by l recvs o e) j
+    now j is = subst (IsCurrent (end_by l recvs o e)) (told_same i j is) current
+
+    blocked : (j : Item) (m : Records) (u : Carried) → AreCarried recvs o.sends m u → AreCarried recvs (blocked_noted j o.sends) m u
+    blocked (StreamDataBlocked n v) m u h = carried_send recvs o.sends m u h _ n blocked_lane refl (λ l. record { limit = refl; reset = λ r e. e })
+    blocked _ m u h = h
 
 -- Whether an item is covered
 
@@ -426,42 +310,30 @@ module _ (l : Limits) (recvs : Tables RecvLane) (o : Outgoing) (e : End) (i : It
   covered_no false r on free acked is (inl out) = free refl out
   covered_no false r on free acked is (inr known) = absurd (true≢false (sym ((acked refl).1 (acked_in l recvs o e i known)) ∙ is))
 
-module _ (l : Limits) (recvs : Tables RecvLane) (o : Outgoing) (e : End) (t : Carried) (h : AreCarried recvs o.sends o.outstanding t) where
-  pub stop_yes : (n code : ℕ) → IsCurrent (end_by l recvs o e) (StopSending n code) → is_told t.stops n ≡ true → IsCarried o.outstanding (Told (StopSending n code))
-  stop_yes n code (x, there, has, goes, part) on = go (told_yes StopSending HasStop HasStop recvs o.outstanding t.stops h.stops n x there on)
-    where
-      go : (v : ℕ) × HasStop x v × IsCarried o.outstanding (Told (StopSending n v)) → IsCarried o.outstanding (Told (StopSending n code))
-      go (v, is, out) = subst (λ u. IsCarried o.outstanding (Told (StopSending n u))) (same_Some v code (sym is ∙ has)) out
+-- as the mark of its half and the acknowledged items tell
+module _ (l : Limits) (recvs : Tables RecvLane) (o : Outgoing) (e : End) (t : Carried) (h : AreCarried recvs o.sends o.outstanding t) (n : ℕ) (r : Bool) where
+  abbrev Tells : Bool → Item → Type 0
+  Tells b i = IsCurrent (end_by l recvs o e) i → (b ≡ true → r ≡ true) → (b ≡ false → IsTrue r ↔ IsAckedOut o i) → (r ≡ true → IsCovered (end_by l recvs o e) i) × (r ≡ false → IsCovered (end_by l recvs o e) i → ⊥)
 
-  pub stop_no : (n code : ℕ) → IsCurrent (end_by l recvs o e) (StopSending n code) → is_told t.stops n ≡ false → IsCarried o.outstanding (Told (StopSending n code)) → ⊥
-  stop_no n code (x, there, has, goes, part) off = told_no StopSending HasStop HasStop recvs o.outstanding t.stops h.stops n x code there off has
+  covered : {L V : Type 0} {at : ℕ → V → Item} {Has Within : L → V → Type 0} {lanes : Tables L} {marks : Tables Bool} → AreExact at Has Within lanes o.outstanding marks → (x : L) (v : V) → lookup lanes n ≡ Some x → Has x v → ((w : V) → Has x w → w ≡ v)
+      → (is_told marks n ≡ true → r ≡ true) → (is_told marks n ≡ false → IsTrue r ↔ IsAckedOut o (at n v)) → (r ≡ true → IsCovered (end_by l recvs o e) (at n v)) × (r ≡ false → IsCovered (end_by l recvs o e) (at n v) → ⊥)
+  covered {at = at} {marks = marks} exact x v there has only on acked =
+      let (marked, free) = told_here exact n x there in (
+        covered_yes l recvs o e (at n v) (is_told marks n) r (λ is. (let (w, has_w, out) = marked is in subst (λ u. IsCarried o.outstanding (Told (at n u))) (only w has_w) out)) acked,
+        covered_no l recvs o e (at n v) (is_told marks n) r on (λ is. free is v has) acked,
+      )
 
-  pub limit_yes : (n v : ℕ) → IsCurrent (end_by l recvs o e) (MaxStreamData n v) → is_told t.limits n ≡ true → IsCarried o.outstanding (Told (MaxStreamData n v))
-  limit_yes n v (x, there, has, above, unsized) on = go (told_yes MaxStreamData HasRecvLimit IsWithinRecvLimit recvs o.outstanding t.limits h.limits n x there on)
-    where
-      go : (u : ℕ) × HasRecvLimit x u × IsCarried o.outstanding (Told (MaxStreamData n u)) → IsCarried o.outstanding (Told (MaxStreamData n v))
-      go (u, is, out) = subst (λ w. IsCarried o.outstanding (Told (MaxStreamData n w))) (is ∙ sym has) out
+  pub stop_covered : (i : Item) → slot_of i ≡ slots.StopSending n → Tells (is_told t.stops n) i
+  stop_covered = of_slot (Tells (is_told t.stops n)) (slots.StopSending n) (λ code (x, there, has, goes, part). covered h.stops x code there has (λ w is. same_Some w code (sym is ∙ has)))
 
-  pub limit_no : (n v : ℕ) → IsCurrent (end_by l recvs o e) (MaxStreamData n v) → is_told t.limits n ≡ false → IsCarried o.outstanding (Told (MaxStreamData n v)) → ⊥
-  limit_no n v (x, there, has, above, unsized) off = told_no MaxStreamData HasRecvLimit IsWithinRecvLimit recvs o.outstanding t.limits h.limits n x v there off has
+  pub reset_covered : (i : Item) → slot_of i ≡ slots.ResetStream n → Tells (is_told t.resets n) i
+  reset_covered = of_slot (Tells (is_told t.resets n)) (slots.ResetStream n) (λ code size (x, there, has). covered h.resets x (record { code = code; size = size }) there has (λ w is. same_Some w _ (sym is ∙ has)))
 
-  pub reset_yes : (n code size : ℕ) → IsCurrent (end_by l recvs o e) (ResetStream n code size) → is_told t.resets n ≡ true → IsCarried o.outstanding (Told (ResetStream n code size))
-  reset_yes n code size (x, there, has) on = go (told_yes reset_at HasReset HasReset o.sends o.outstanding t.resets h.resets n x there on)
-    where
-      go : (r : Reset) × HasReset x r × IsCarried o.outstanding (Told (reset_at n r)) → IsCarried o.outstanding (Told (ResetStream n code size))
-      go (r, is, out) = subst (λ u. IsCarried o.outstanding (Told (reset_at n u))) (same_Some r (record { code = code; size = size }) (sym is ∙ has)) out
+  pub limit_covered : (i : Item) → slot_of i ≡ slots.MaxStreamData n → Tells (is_told t.limits n) i
+  limit_covered = of_slot (Tells (is_told t.limits n)) (slots.MaxStreamData n) (λ v (x, there, has, above, unsized). covered h.limits x v there has (λ w is. is ∙ sym has))
 
-  pub reset_no : (n code size : ℕ) → IsCurrent (end_by l recvs o e) (ResetStream n code size) → is_told t.resets n ≡ false → IsCarried o.outstanding (Told (ResetStream n code size)) → ⊥
-  reset_no n code size (x, there, has) off = told_no reset_at HasReset HasReset o.sends o.outstanding t.resets h.resets n x (record { code = code; size = size }) there off has
-
-  pub block_yes : (n v : ℕ) → IsCurrent (end_by l recvs o e) (StreamDataBlocked n v) → is_told t.blocks n ≡ true → IsCarried o.outstanding (Told (StreamDataBlocked n v))
-  block_yes n v (x, there, none, has, more, sent) on = go (told_yes StreamDataBlocked HasSendLimit IsWithinSendLimit o.sends o.outstanding t.blocks h.blocks n x there on)
-    where
-      go : (u : ℕ) × HasSendLimit x u × IsCarried o.outstanding (Told (StreamDataBlocked n u)) → IsCarried o.outstanding (Told (StreamDataBlocked n v))
-      go (u, is, out) = subst (λ w. IsCarried o.outstanding (Told (StreamDataBlocked n w))) (is ∙ sym has) out
-
-  pub block_no : (n v : ℕ) → IsCurrent (end_by l recvs o e) (StreamDataBlocked n v) → is_told t.blocks n ≡ false → IsCarried o.outstanding (Told (StreamDataBlocked n v)) → ⊥
-  block_no n v (x, there, none, has, more, sent) off = told_no StreamDataBlocked HasSendLimit IsWithinSendLimit o.sends o.outstanding t.blocks h.blocks n x v there off has
+  pub block_covered : (i : Item) → slot_of i ≡ slots.StreamDataBlocked n → Tells (is_told t.blocks n) i
+  block_covered = of_slot (Tells (is_told t.blocks n)) (slots.StreamDataBlocked n) (λ v (x, there, none, has, more, sent). covered h.blocks x v there has (λ w is. is ∙ sym has))
 
 -- Pieces leave their packets
 
@@ -478,112 +350,40 @@ carried_acked late k p o new recvs t u h apart first is are =
 
     go : (b : Bool) → first_piece (fmap.get (held_out b o) k) ≡ Some p → AreCarried recvs after (if b then o.outstanding else without_first o.outstanding k (fmap.get o.outstanding k)) (if b then t else carried_without p recvs after t)
     go true at = noted
-    go false at = carried_gone recvs after o.outstanding t noted (without_first o.outstanding k (fmap.get o.outstanding k)) k p (shortened_is o.outstanding k p at) apart
+    go false at = carried_gone recvs after o.outstanding t noted (without_first o.outstanding k (fmap.get o.outstanding k)) k apart p (shortened_is o.outstanding k p at)
 
 pub carried_lost : (k : ℕ) (p : Piece) (o new : Outgoing) (recvs : Tables RecvLane) (t u : Carried) → AreCarried recvs o.sends o.outstanding t → AreApartIn o.outstanding → first_piece (fmap.get o.outstanding k) ≡ Some p → new ≡ first_lost_out k p o → u ≡ carried_without p recvs new.sends t → AreCarried recvs new.sends new.outstanding u
-carried_lost k p o new recvs t u h apart first is are = rw (are, is) (carried_gone recvs o.sends o.outstanding t h (without_first o.outstanding k (fmap.get o.outstanding k)) k p (shortened_is o.outstanding k p first) apart)
+carried_lost k p o new recvs t u h apart first is are = rw (are, is) (carried_gone recvs o.sends o.outstanding t h (without_first o.outstanding k (fmap.get o.outstanding k)) k apart p (shortened_is o.outstanding k p first))
 
 -- What calls leave of a limit, a reset and a stop
 
-pub reset_limit : (l : SendLane) (code : ℕ) → (reset_lane l code).limit ≡ l.limit
-reset_limit l code = go (is_some (reset_refusal l))
-  where
-    go : (b : Bool) → (cond b l (broken_off l code)).limit ≡ l.limit
-    go true = refl
-    go false = refl
-
+-- what was reset isn't reset again
 refused : (l : SendLane) (r : Reset) → l.was_reset ≡ Some r → is_some (reset_refusal l) ≡ true
 refused l r e = ap (λ (o : Option Reset). is_some (if is_some o then Some WasReset else (if is_whole l then Some Finished else None))) e
 
-pub reset_kept : (l : SendLane) (code : ℕ) (r : Reset) → l.was_reset ≡ Some r → (reset_lane l code).was_reset ≡ Some r
-reset_kept l code r e = subst (λ (b : Bool). (cond b l (broken_off l code)).was_reset ≡ Some r) (sym (refused l r e)) e
+pub reset_keeps : (l : SendLane) (code : ℕ) → KeepsSend l (reset_lane l code)
+reset_keeps l code = cond_both (is_some (reset_refusal l)) l (broken_off l code) (KeepsSend l) (λ stays. record { limit = refl; reset = λ r e. e }) (λ moves. record { limit = refl; reset = λ r e. absurd (both_ways _ moves (refused l r e)) })
 
-pub stop_limit : (answers : Bool) (code : ℕ) (l : SendLane) → (stop_taken answers l code).limit ≡ l.limit
-stop_limit true code l = go (is_some (reset_refusal l))
+pub stop_taken_keeps : (answers : Bool) (code : ℕ) (l : SendLane) → KeepsSend l (stop_taken answers l code)
+stop_taken_keeps true code l = cond_both (is_some (reset_refusal l)) l (record l { stopped = first_code l.stopped code }) (KeepsSend l) (λ stays. record { limit = refl; reset = λ r e. e }) (λ moves. record { limit = refl; reset = λ r e. e })
+stop_taken_keeps false code l =
+    cond_both (is_some (reset_refusal l)) l (record (broken_off l code) { stopped = first_code l.stopped code }) (KeepsSend l) (λ stays. record { limit = refl; reset = λ r e. e }) (λ moves. record { limit = refl; reset = λ r e. absurd (both_ways _ moves (refused l r e)) })
+
+pub stop_keeps : (l : RecvLane) (code : ℕ) → KeepsRecv l (stop l code)
+stop_keeps l code =
+    cond_both (is_some l.stop_code || is_over l) l (record l { arrived = discard l.arrived; stop_code = Some code }) (KeepsRecv l) (λ stays. record { limit = refl; stop = λ v e. e })
+    (λ moves. record { limit = refl; stop = λ v e. absurd (both_ways _ moves (ap (λ (o : Option ℕ). is_some o || is_over l) e)) })
+
+pub read_keeps : (l : RecvLane) (room : ℕ) → KeepsRecv l (after_read l room)
+read_keeps l room = go (read_answer l room)
   where
-    go : (b : Bool) → (cond b l (record l { stopped = first_code l.stopped code })).limit ≡ l.limit
-    go true = refl
-    go false = refl
-stop_limit false code l = go (is_some (reset_refusal l))
-  where
-    go : (b : Bool) → (cond b l (record (broken_off l code) { stopped = first_code l.stopped code })).limit ≡ l.limit
-    go true = refl
-    go false = refl
+    go : (r : Read) → KeepsRecv l (after_answer r l room)
+    go reads.Wait = record { limit = refl; stop = λ v e. e }
+    go _ = record { limit = refl; stop = λ v e. e }
 
-pub stop_kept : (answers : Bool) (code : ℕ) (l : SendLane) (r : Reset) → l.was_reset ≡ Some r → (stop_taken answers l code).was_reset ≡ Some r
-stop_kept true code l r e = subst (λ (b : Bool). (cond b l (record l { stopped = first_code l.stopped code })).was_reset ≡ Some r) (sym (refused l r e)) e
-stop_kept false code l r e = subst (λ (b : Bool). (cond b l (record (broken_off l code) { stopped = first_code l.stopped code })).was_reset ≡ Some r) (sym (refused l r e)) e
-
-pub stop_stop : (l : RecvLane) (code v : ℕ) → l.stop_code ≡ Some v → (stop l code).stop_code ≡ Some v
-stop_stop l code v e = subst (λ (b : Bool). (cond b l (record l { arrived = discard l.arrived; stop_code = Some code })).stop_code ≡ Some v) (sym (ap (λ (o : Option ℕ). is_some o || is_over l) e)) e
-
-pub read_stop : (l : RecvLane) (room v : ℕ) → l.stop_code ≡ Some v → (after_read l room).stop_code ≡ Some v
-read_stop l room v e = go (read_answer l room)
-  where
-    go : (r : Read) → (after_answer r l room).stop_code ≡ Some v
-    go (reads.Bytes k) = e
-    go reads.End = e
-    go (reads.Reset code) = e
-    go reads.Wait = e
-
-pub broken_stop : (l : RecvLane) (code size v : ℕ) → l.stop_code ≡ Some v → (take_reset l code size).stop_code ≡ Some v
-broken_stop l code size v e = go (is_some l.reset_code || is_whole_recv l)
-  where
-    go : (b : Bool) → (cond b l (record l { arrived = forget l.arrived; final_size = Some size; reset_code = Some code })).stop_code ≡ Some v
-    go true = e
-    go false = e
-
--- What calls leave of a receiving half's limit
-
-pub stop_recv_limit : (l : RecvLane) (code : ℕ) → (stop l code).limit ≡ l.limit
-stop_recv_limit l code = go (is_some l.stop_code || is_over l)
-  where
-    go : (b : Bool) → (cond b l (record l { arrived = discard l.arrived; stop_code = Some code })).limit ≡ l.limit
-    go true = refl
-    go false = refl
-
-pub read_limit : (l : RecvLane) (room : ℕ) → (after_read l room).limit ≡ l.limit
-read_limit l room = go (read_answer l room)
-  where
-    go : (r : Read) → (after_answer r l room).limit ≡ l.limit
-    go (reads.Bytes k) = refl
-    go reads.End = refl
-    go (reads.Reset code) = refl
-    go reads.Wait = refl
-
-pub broken_limit : (l : RecvLane) (code size : ℕ) → (take_reset l code size).limit ≡ l.limit
-broken_limit l code size = go (is_some l.reset_code || is_whole_recv l)
-  where
-    go : (b : Bool) → (cond b l (record l { arrived = forget l.arrived; final_size = Some size; reset_code = Some code })).limit ≡ l.limit
-    go true = refl
-    go false = refl
-
--- Whether the current item of a slot is covered
-
-module _ (l : Limits) (recvs : Tables RecvLane) (o : Outgoing) (e : End) (t : Carried) (h : AreCarried recvs o.sends o.outstanding t) (n : ℕ) (r : Bool) where
-  -- as a mark and the acknowledged items tell
-  abbrev Tells : Bool → Item → Type 0
-  Tells b i = IsCurrent (end_by l recvs o e) i → (b ≡ true → r ≡ true) → (b ≡ false → IsTrue r ↔ IsAckedOut o i) → (r ≡ true → IsCovered (end_by l recvs o e) i) × (r ≡ false → IsCovered (end_by l recvs o e) i → ⊥)
-
-  pub stop_covered : (i : Item) → slot_of i ≡ slots.StopSending n → Tells (is_told t.stops n) i
-  stop_covered =
-      of_slot (Tells (is_told t.stops n)) (slots.StopSending n)
-      (λ code current on acked. (covered_yes l recvs o e (StopSending n code) (is_told t.stops n) r (stop_yes l recvs o e t h n code current) acked, covered_no l recvs o e (StopSending n code) (is_told t.stops n) r on (stop_no l recvs o e t h n code current) acked))
-
-  pub reset_covered : (i : Item) → slot_of i ≡ slots.ResetStream n → Tells (is_told t.resets n) i
-  reset_covered =
-      of_slot (Tells (is_told t.resets n)) (slots.ResetStream n)
-      (λ code size current on acked. (covered_yes l recvs o e (ResetStream n code size) (is_told t.resets n) r (reset_yes l recvs o e t h n code size current) acked, covered_no l recvs o e (ResetStream n code size) (is_told t.resets n) r on (reset_no l recvs o e t h n code size current) acked))
-
-  pub limit_covered : (i : Item) → slot_of i ≡ slots.MaxStreamData n → Tells (is_told t.limits n) i
-  limit_covered =
-      of_slot (Tells (is_told t.limits n)) (slots.MaxStreamData n)
-      (λ v current on acked. (covered_yes l recvs o e (MaxStreamData n v) (is_told t.limits n) r (limit_yes l recvs o e t h n v current) acked, covered_no l recvs o e (MaxStreamData n v) (is_told t.limits n) r on (limit_no l recvs o e t h n v current) acked))
-
-  pub block_covered : (i : Item) → slot_of i ≡ slots.StreamDataBlocked n → Tells (is_told t.blocks n) i
-  block_covered =
-      of_slot (Tells (is_told t.blocks n)) (slots.StreamDataBlocked n)
-      (λ v current on acked. (covered_yes l recvs o e (StreamDataBlocked n v) (is_told t.blocks n) r (block_yes l recvs o e t h n v current) acked, covered_no l recvs o e (StreamDataBlocked n v) (is_told t.blocks n) r on (block_no l recvs o e t h n v current) acked))
+pub broken_keeps : (l : RecvLane) (code size : ℕ) → KeepsRecv l (take_reset l code size)
+broken_keeps l code size =
+    cond_both (is_some l.reset_code || is_whole_recv l) l (record l { arrived = forget l.arrived; final_size = Some size; reset_code = Some code }) (KeepsRecv l) (λ stays. record { limit = refl; stop = λ v e. e }) (λ moves. record { limit = refl; stop = λ v e. e })
 
 -- Refusals
 
@@ -596,12 +396,8 @@ on_err_by (Ok x) P Q f p = tt
 on_err_by (Err e) P Q f p = f p
 
 -- no packet moves as the peer opens streams
-opened_out : (e : End) (n : ℕ) (b : Bool) → (cond b e (opens n e)).outstanding ≡ e.outstanding
-opened_out e n true = refl
-opened_out e n false = refl
-
 pub peer_outstanding : (e : End) (n : ℕ) → (opened_by_peer n e).outstanding ≡ e.outstanding
-peer_outstanding e n = opened_out e n (is_own e n)
+peer_outstanding e n = cond_both (is_own e n) e (opens n e) (λ (x : End). x.outstanding ≡ e.outstanding) (λ own. refl) (λ new. refl)
 
 -- a chunk that is acknowledged moves no mark
 pub same_data : (late : Bool) (p : Piece) (n : ℕ) (c : Chunk) (recvs : Tables RecvLane) (sends : Tables SendLane) (t : Carried) → p ≡ Data n c → t ≡ (if late then t else carried_without p recvs sends t)

@@ -1,5 +1,5 @@
 -- What holds of the tables of an end: each change of a part keeps it.
-use Rattle.std.proofs.Common.{if◌then◌else◌, ◌≡◌, ℕ, zero, suc, ◌+◌, ◌-◌, ◌≤◌, ◌^◌, Bool, true, false, List, [], length, take, append-nil, Option, None, Some, Ok, is_some, cond, refl, sym, ap, ◌∙◌, subst, arith}
+use Rattle.std.proofs.Common.{if◌then◌else◌, ◌≡◌, ℕ, zero, suc, ◌+◌, ◌-◌, ◌≤◌, ◌^◌, Bool, true, false, List, [], length, take, append-nil, Option, None, Some, Ok, cond, refl, sym, ap, ◌∙◌, subst, arith}
 use Rattle.std.specs.FinMap as fmap
 use Rattle.std.proofs.lemmas.Bool.{true≢false}
 use Rattle.std.proofs.lemmas.Option.{none-some, same_Some}
@@ -7,7 +7,7 @@ use Rattle.qs_ranges.specs.Numbers.{MAX_VARINT, NumberSet}
 use Rattle.qs_recv.specs.Lane.{RecvLane, after_read, stop, stop_and_discard, new_lane as new_recv_lane, MAX_WINDOW, set_window}
 use Rattle.qs_machine.specs.Due.{IsCurrent}
 use Rattle.qs_recv.specs.declared.credit.Share.{Share}
-use Rattle.qs_send.specs.Lane.{SendLane, Sending, new_lane as new_send_lane, answer_of, refusal, reset_refusal, write_lane, sent_lane, finish_lane, reset_lane, stop_taken, allow_lane, buffer_lane}
+use Rattle.qs_send.specs.Lane.{SendLane, Sending, new_lane as new_send_lane, answer_of, refusal, write_lane, sent_lane, finish_lane, reset_lane, stop_taken, allow_lane, buffer_lane}
 use Rattle.qs_send.specs.declared.parts.Chunk.{Chunk}
 use Rattle.qs_send.specs.declared.piece.Item.{Item}
 use Rattle.qs_send.specs.declared.piece.Piece.{Piece}
@@ -36,16 +36,16 @@ use Rattle.qs_conn.specs.Runs.{held_out}
 use Rattle.qs_conn.specs.declared.slot.Slot.TheVariants as slots
 use Rattle.qs_conn.specs.Untold.{AreTold, TellsAt, SendTells, HasMore, told_by_recv, told_by_send, marked_for}
 use Rattle.qs_conn.proofs.Calm.{told_read}
-use Rattle.qs_conn.proofs.Counted.{fit_sends, fit_allowed, fit_written, fit_finished, fit_reset, fit_told_to_stop, fit_read, fit_stopped, fit_forgotten, fit_opened, put_counted, fit_buffered, fit_windowed}
+use Rattle.qs_conn.proofs.Counted.{fit_sends, fit_sent, fit_written, fit_finished, fit_read, fit_stopped, fit_forgotten, fit_opened, put_counted, fit_windowed, ends_as_reset, ends_as_stopped}
 use Rattle.qs_conn.proofs.Flows.{end_chunk}
 use Rattle.qs_conn.proofs.Funded.{sum_lane, reset_sends, stop_sends, sum_piece, sum_put}
 use Rattle.qs_conn.proofs.Kept.{sound_after_read, sound_after_stop, sound_after_forget, sound_opened, sound_after_window}
 use Rattle.qs_conn.proofs.Pieces.{put_old}
 use Rattle.qs_machine.proofs.Carried.{carried_more}
-use Rattle.qs_conn.proofs.Untolds.{recv_own, send_own, recv_noted, send_noted, recvs_open, sends_open, told_carried, told_edited, told_placed, told_unmarked, told_written, told_sent, told_finished, told_allowed, told_buffered, told_put, told_noted, acked_stays, lost_stays, marks_stay, in_idle, out_idle}
-use Rattle.qs_conn.proofs.CarriedSteps.{carried_recv, carried_windowed, carried_send, carried_allowed, carried_chunk, carried_put, carried_acked, carried_lost, carried_placed, carried_opened, wide_none, reset_limit, reset_kept, stop_limit, stop_kept, stop_stop, read_stop, read_limit, stop_recv_limit}
+use Rattle.qs_conn.proofs.Untolds.{recv_own, send_own, recv_noted, send_noted, recvs_open, sends_open, told_carried, told_edited, told_placed, told_unmarked, told_written, told_sent, told_calm, told_allowed, told_put, told_noted, acked_stays, lost_stays, marks_stay, in_idle, out_idle}
+use Rattle.qs_conn.proofs.CarriedSteps.{carried_recv, carried_windowed, carried_send, carried_allowed, carried_chunk, carried_put, carried_acked, carried_lost, carried_placed, carried_opened, wide_none, reset_keeps, stop_taken_keeps, stop_keeps, read_keeps}
 use Rattle.qs_conn.proofs.EachItem.{each_item}
-use Rattle.qs_conn.proofs.Owns.{own_risen, own_chunk, own_told, own_acked, own_lost}
+use Rattle.qs_conn.proofs.Owns.{own_risen, own_chunk, own_put, own_present, own_acked, own_lost}
 use Rattle.qs_conn.proofs.Rests.{rest_same, rest_on}
 use Rattle.qs_conn.proofs.Slots.{end_put}
 use Rattle.qs_conn.proofs.Stills.{memory_less, memory_marks}
@@ -93,7 +93,7 @@ module _ (c : Core) (h : IsAtRest c) where
           sound = core.sound;
           fits = core.fits;
           credit = omega (arith, sum, credit);
-          counts = fit_allowed _ _ _ _ _ _ _ core.counts _ n limit refl;
+          counts = fit_sent _ _ _ _ _ _ _ core.counts _ n (λ l. allow_lane l limit) refl (λ l there. refl);
           told_in = core.told_in;
           told_out = told_allowed c.outbox.sends c.outbox.outstanding c.outbox.acked c.untold_sends core.told_out _ n limit (λ l at. subst (λ (k : SendLane). k.sent_end ≤ k.limit) (same_Some half.lane l (sym has.lane ∙ at)) has.lawful.order.sent_limit) refl;
           carried = carried_allowed c.recvs c.outbox.sends c.outbox.outstanding c.carried core.carried _ n limit refl;
@@ -104,32 +104,32 @@ module _ (c : Core) (h : IsAtRest c) where
 
   pub rest_buffered : (n size : ℕ) (o : Outgoing) → o ≡ on_lane n (λ l. buffer_lane l size) c.outbox → IsAtRest (record c { outbox = o })
   rest_buffered n size o is =
-      on_half n (λ l. buffer_lane l size) o c.untold_sends is (λ l. refl) (fit_buffered _ _ _ _ _ _ _ core.counts _ n size refl)
-      (told_buffered c.outbox.sends c.outbox.outstanding c.outbox.acked c.untold_sends core.told_out _ n size refl)
-      (carried_send c.recvs c.outbox.sends c.outbox.outstanding c.carried core.carried _ n (λ l. buffer_lane l size) refl (λ l. refl) (λ l r e. e))
+      on_half n (λ l. buffer_lane l size) o c.untold_sends is (λ l. refl) (fit_sent _ _ _ _ _ _ _ core.counts _ n (λ l. buffer_lane l size) refl (λ l there. refl))
+      (told_calm c.outbox.sends c.outbox.outstanding c.outbox.acked c.untold_sends core.told_out _ n (λ l. buffer_lane l size) refl (λ l at k code size has. has) (λ l at k limit has. has))
+      (carried_send c.recvs c.outbox.sends c.outbox.outstanding c.carried core.carried _ n (λ l. buffer_lane l size) refl (λ l. record { limit = refl; reset = λ r e. e }))
 
   pub rest_written : (n : ℕ) (bytes : List ℕ) (o : Outgoing) (marks : Tables Bool) → refusal (or_none (lookup c.outbox.sends n)) ≡ None → o ≡ on_lane n (λ l. write_lane l bytes) c.outbox → HasMore c.untold_sends marks
       → ((m : ℕ) → IsBlockedAt (lookup o.sends n) m → lookup marks n ≡ Some false → ⊥) → IsAtRest (record c { outbox = o; untold_sends = marks })
   rest_written n bytes o marks free is more blocked =
       on_half n (λ l. write_lane l bytes) o marks is (λ l. refl) (fit_written _ _ _ _ _ _ _ core.counts _ n bytes free refl)
       (told_written c.outbox.sends c.outbox.outstanding c.outbox.acked c.untold_sends core.told_out _ n marks bytes refl more (subst (λ (x : Outgoing). (m : ℕ) → IsBlockedAt (lookup x.sends n) m → lookup marks n ≡ Some false → ⊥) is blocked))
-      (carried_send c.recvs c.outbox.sends c.outbox.outstanding c.carried core.carried _ n (λ l. write_lane l bytes) refl (λ l. refl) (λ l r e. e))
+      (carried_send c.recvs c.outbox.sends c.outbox.outstanding c.carried core.carried _ n (λ l. write_lane l bytes) refl (λ l. record { limit = refl; reset = λ r e. e }))
 
   pub rest_finished : (n : ℕ) (half : Sending) (o : Outgoing) → HasSending c.outbox n half → answer_of (refusal (or_none (lookup c.outbox.sends n))) ≡ Ok tt → o ≡ on_lane n finish_lane c.outbox → IsAtRest (record c { outbox = o })
   rest_finished n half o has free is =
-      on_half n finish_lane o c.untold_sends is (λ l. refl) (fit_finished _ _ _ _ _ _ _ core.counts _ n c.outbox half refl has free refl) (told_finished c.outbox.sends c.outbox.outstanding c.outbox.acked c.untold_sends core.told_out _ n refl)
-      (carried_send c.recvs c.outbox.sends c.outbox.outstanding c.carried core.carried _ n finish_lane refl (λ l. refl) (λ l r e. e))
+      on_half n finish_lane o c.untold_sends is (λ l. refl) (fit_finished _ _ _ _ _ _ _ core.counts _ n c.outbox half refl has free refl) (told_calm c.outbox.sends c.outbox.outstanding c.outbox.acked c.untold_sends core.told_out _ n finish_lane refl (λ l at k code size has. has) (λ l at k limit has. has))
+      (carried_send c.recvs c.outbox.sends c.outbox.outstanding c.carried core.carried _ n finish_lane refl (λ l. record { limit = refl; reset = λ r e. e }))
 
   -- a half that is broken off has its reset to tell
   pub rest_reset : (n code : ℕ) (o : Outgoing) (marks : Tables Bool) → o ≡ on_lane n (λ l. reset_lane l code) c.outbox → marks ≡ updated c.untold_sends n (λ b. true) (lookup c.untold_sends n) → IsAtRest (record c { outbox = o; untold_sends = marks })
   rest_reset n code o marks is are =
-      on_half n (λ l. reset_lane l code) o marks is (λ l. reset_sends code l (is_some (reset_refusal l))) (fit_reset _ _ _ _ _ _ _ core.counts _ n code refl) (told_edited SendTells c.outbox.sends c.outbox.outstanding c.outbox.acked c.untold_sends core.told_out _ marks n (λ l. reset_lane l code) refl are)
-      (carried_send c.recvs c.outbox.sends c.outbox.outstanding c.carried core.carried _ n (λ l. reset_lane l code) refl (λ l. reset_limit l code) (λ l r. reset_kept l code r))
+      on_half n (λ l. reset_lane l code) o marks is (reset_sends code) (fit_sent _ _ _ _ _ _ _ core.counts _ n (λ l. reset_lane l code) refl (λ l there. ends_as_reset code l)) (told_edited SendTells c.outbox.sends c.outbox.outstanding c.outbox.acked c.untold_sends core.told_out _ marks n (λ l. reset_lane l code) refl are)
+      (carried_send c.recvs c.outbox.sends c.outbox.outstanding c.carried core.carried _ n (λ l. reset_lane l code) refl (λ l. reset_keeps l code))
 
   pub rest_told_to_stop : (answers : Bool) (n code : ℕ) (o : Outgoing) (marks : Tables Bool) → o ≡ on_lane n (λ l. stop_taken answers l code) c.outbox → marks ≡ updated c.untold_sends n (λ b. true) (lookup c.untold_sends n) → IsAtRest (record c { outbox = o; untold_sends = marks })
   rest_told_to_stop answers n code o marks is are =
-      on_half n (λ l. stop_taken answers l code) o marks is (stop_sends answers code) (fit_told_to_stop _ _ _ _ _ _ _ core.counts _ answers n code refl) (told_edited SendTells c.outbox.sends c.outbox.outstanding c.outbox.acked c.untold_sends core.told_out _ marks n (λ l. stop_taken answers l code) refl are)
-      (carried_send c.recvs c.outbox.sends c.outbox.outstanding c.carried core.carried _ n (λ l. stop_taken answers l code) refl (stop_limit answers code) (stop_kept answers code))
+      on_half n (λ l. stop_taken answers l code) o marks is (stop_sends answers code) (fit_sent _ _ _ _ _ _ _ core.counts _ n (λ l. stop_taken answers l code) refl (λ l there. ends_as_stopped answers code l)) (told_edited SendTells c.outbox.sends c.outbox.outstanding c.outbox.acked c.untold_sends core.told_out _ marks n (λ l. stop_taken answers l code) refl are)
+      (carried_send c.recvs c.outbox.sends c.outbox.outstanding c.carried core.carried _ n (λ l. stop_taken answers l code) refl (stop_taken_keeps answers code))
 
   -- Receiving halves
 
@@ -150,14 +150,14 @@ module _ (c : Core) (h : IsAtRest c) where
       rest_recvs now c.untold_recvs e (sound_after_read c.limits.role c.limits.settings (present_of c.limits) c.recvs now c.limits.granted n size core.sound after)
       (fit_read _ _ _ _ _ _ _ core.counts _ _ core.sound now n size e was is after before behind to)
       (told_read c.limits.role c.limits.settings c.recvs c.outbox.outstanding c.outbox.acked c.untold_recvs core.told_in now n size after)
-      (carried_recv c.recvs c.outbox.sends c.outbox.outstanding c.carried core.carried now n (λ l. after_read l size) after (λ l. read_limit l size) (λ l v. read_stop l size v))
+      (carried_recv c.recvs c.outbox.sends c.outbox.outstanding c.carried core.carried now n (λ l. after_read l size) after (λ l. read_keeps l size))
 
   pub rest_stopped : (n code : ℕ) (now : Tables RecvLane) (marks : Tables Bool) → now ≡ updated c.recvs n (λ l. stop l code) (lookup c.recvs n) → marks ≡ updated c.untold_recvs n (λ b. true) (lookup c.untold_recvs n) → IsAtRest (record c { recvs = now; untold_recvs = marks })
   rest_stopped n code now marks after are =
       rest_recvs now marks c.ended (sound_after_stop c.limits.role c.limits.settings (present_of c.limits) c.recvs now c.limits.granted n code core.sound after)
       (fit_stopped _ _ _ _ _ _ _ core.counts now n code after)
       (told_edited (TellsAt c.limits.role c.limits.settings) c.recvs c.outbox.outstanding c.outbox.acked c.untold_recvs core.told_in now marks n (λ l. stop l code) after are)
-      (carried_recv c.recvs c.outbox.sends c.outbox.outstanding c.carried core.carried now n (λ l. stop l code) after (λ l. stop_recv_limit l code) (λ l v. stop_stop l code v))
+      (carried_recv c.recvs c.outbox.sends c.outbox.outstanding c.carried core.carried now n (λ l. stop l code) after (λ l. stop_keeps l code))
 
   -- a stream has another window
   pub rest_windowed : (n w : ℕ) (now : Tables RecvLane) (marks : Tables Bool) → 1 ≤ w → w ≤ MAX_WINDOW → now ≡ updated c.recvs n (λ l. set_window l w) (lookup c.recvs n) → marks ≡ updated c.untold_recvs n (λ b. true) (lookup c.untold_recvs n)
@@ -175,7 +175,7 @@ module _ (c : Core) (h : IsAtRest c) where
       rest_recvs now marks e (sound_after_forget c.limits.role c.limits.settings (present_of c.limits) c.recvs now c.limits.granted n code core.sound after)
       (fit_forgotten _ _ _ _ _ _ _ core.counts now n code e was is after before behind to)
       (told_edited (TellsAt c.limits.role c.limits.settings) c.recvs c.outbox.outstanding c.outbox.acked c.untold_recvs core.told_in now marks n (λ l. stop_and_discard l code) after are)
-      (carried_recv c.recvs c.outbox.sends c.outbox.outstanding c.carried core.carried now n (λ l. stop_and_discard l code) after (λ l. stop_recv_limit l code) (λ l v. stop_stop l code v))
+      (carried_recv c.recvs c.outbox.sends c.outbox.outstanding c.carried core.carried now n (λ l. stop_and_discard l code) after (λ l. (let keeps = stop_keeps l code in record { limit = keeps.limit; stop = keeps.stop })))
 
   -- Streams open
 
@@ -326,7 +326,7 @@ module _ (c : Core) (h : IsCore c) where
       let told = told_carried SendTells c.outbox.sends c.outbox.outstanding c.outbox.acked c.untold_sends h.told_out (item_put_out i c.outbox).outstanding (carried_more there.outstanding there.next (Told i)) in
       subst (λ (x : Outgoing). IsCore (record c { outbox = x; carried = item_carried i true c.carried; own = own_with i c.own })) (sym out)
       (core_put (Control i) (item_put_out i c.outbox) c.untold_sends (end_put c.limits c.recvs c.outbox there i) (omega (arith, sum, credit)) refl (told_put i c.outbox.sends _ c.outbox.acked c.untold_sends told)
-      (item_carried i true c.carried) (carried_put c.limits c.recvs c.outbox e c.carried h.carried i current) (own_with i c.own) (own_told c.limits c.recvs c.outbox e c.own h.own i current))
+      (item_carried i true c.carried) (carried_put c.limits c.recvs c.outbox e c.carried h.carried i current) (own_with i c.own) (own_put c.limits c.outbox.outstanding c.own h.own c.outbox.next i (λ own. own_present c.limits c.recvs c.outbox e i own current)))
 
   -- a chunk went in, and where it reached the stream's limit the stream has a mark
   pub core_chunk : (n : ℕ) (chunk : Chunk) (bytes : List ℕ) (o : Outgoing) (marks : Tables Bool) → o ≡ chunk_put n chunk c.outbox → length bytes ≡ chunk.len → sent_sum (chunk_put n chunk c.outbox).sends ≤ c.limits.known_data → HasMore c.untold_sends marks
@@ -337,7 +337,7 @@ module _ (c : Core) (h : IsCore c) where
       subst (λ (x : Outgoing). IsCore (record c { outbox = x; untold_sends = marks })) (sym is)
       (core_put (Stream n chunk.offset bytes chunk.fin) put marks (end_chunk c.limits c.recvs c.outbox there n chunk bytes count) credit refl
       (told_sent c.outbox.sends put.outstanding c.outbox.acked c.untold_sends told put.sends n marks chunk refl more (subst (λ (x : Outgoing). (m : ℕ) → IsBlockedAt (lookup x.sends n) m → lookup marks n ≡ Some false → ⊥) is blocked))
-      c.carried (carried_send c.recvs c.outbox.sends put.outstanding c.carried (carried_chunk c.recvs c.outbox.sends c.outbox.outstanding c.carried h.carried c.outbox.next n chunk) put.sends n (λ l. sent_lane l chunk) refl (λ l. refl) (λ l r e. e))
+      c.carried (carried_send c.recvs c.outbox.sends put.outstanding c.carried (carried_chunk c.recvs c.outbox.sends c.outbox.outstanding c.carried h.carried c.outbox.next n chunk) put.sends n (λ l. sent_lane l chunk) refl (λ l. record { limit = refl; reset = λ r e. e }))
       c.own (own_chunk c.limits c.outbox.outstanding c.own h.own c.outbox.next n chunk))
 
   -- a half of which all was told is marked no more

@@ -1,7 +1,8 @@
 -- The counts of the streams that came to their end: each call keeps them right.
-use Rattle.std.proofs.Common.{◌≡◌, ℕ, ◌≤◌, Bool, true, false, not, ◌&&◌, ◌||◌, cond, List, [], length, Option, None, Some, is_some, refl, sym, ap, ◌∙◌, subst, arith, inr}
+use Rattle.std.proofs.Common.{◌≡◌, ℕ, ◌≤◌, Bool, true, false, not, ◌&&◌, ◌||◌, cond, List, length, Option, None, Some, is_some, refl, sym, ap, ◌∙◌, subst, arith, inr}
+use Rattle.qs_send.specs.declared.piece.Item.TheVariants.{ResetStream, StreamDataBlocked}
 use Rattle.std.specs.Prelude.{max, is_none, ◌==◌, Ok, IsOk}
-use Rattle.std.proofs.lemmas.Bool.{both_ways}
+use Rattle.std.proofs.lemmas.Bool.{both_ways, cond_both}
 use Rattle.std.proofs.lemmas.Option.{none-some, same_Some}
 use Rattle.qs_wire.specs.declared.stream_id.Role.{Role}
 use Rattle.qs_recv.specs.Lane.{RecvLane, stop, stop_and_discard, is_over as is_read_off, raise, after_read, take_stream, take_reset, check_stream, is_whole as recv_whole, new_lane as new_recv_lane, set_window}
@@ -9,7 +10,7 @@ use Rattle.qs_recv.specs.Lawful.{IsLawful}
 use Rattle.qs_recv.specs.Assembled.{discard, forget}
 use Rattle.qs_recv.specs.declared.credit.Share.{Share}
 use Rattle.qs_recv.specs.declared.credit.Share.TheVariants.{Half}
-use Rattle.qs_send.specs.Lane.{new_lane as new_send_lane, Sending, SendLane, is_whole, unacked_from, answer_of, write_lane, finish_lane, reset_lane, broken_off, first_code, stop_taken, reset_refusal, refusal, allow_lane, buffer_lane, blocked_lane, sent_lane, acked_lane, reset_acked_lane}
+use Rattle.qs_send.specs.Lane.{new_lane as new_send_lane, Sending, SendLane, is_whole, unacked_from, answer_of, write_lane, finish_lane, reset_lane, broken_off, first_code, stop_taken, reset_refusal, refusal, blocked_lane, sent_lane, acked_lane, reset_acked_lane}
 use Rattle.qs_send.specs.declared.parts.SendFault.{SendFault}
 use Rattle.qs_send.specs.declared.parts.SendFault.TheVariants.{Finished, WasReset}
 use Rattle.qs_send.specs.declared.parts.Reset.{Reset}
@@ -34,39 +35,21 @@ use Rattle.qs_machine.specs.Seen.{Seen, Stream, Control}
 use Rattle.qs_machine.specs.Lawful.{frame_put, chunk_of}
 use Rattle.qs_machine.specs.Sums.{or_none}
 use Rattle.qs_machine.specs.Outgoing.{Outgoing, HasSending, first_acked_out, acked_at}
-use Rattle.qs_machine.proofs.TableLaws.{lookup_same}
 use Rattle.qs_conn.specs.declared.by_dir.ByDir.{ByDir}
 use Rattle.qs_conn.specs.Ended.{recv_over, send_over, over, is_over, recounted, half_of, AreAllCounted, IsToldOfEnd, CountsFit}
-use Rattle.qs_conn.proofs.EachItem.{each_item}
-use Rattle.qs_conn.proofs.Counting.{recv_recounted, send_recounted, nothing_recounted, recvs_opened, sends_opened, counted_raised, none_counted}
+use Rattle.qs_conn.proofs.Counting.{recv_recounted, send_recounted, counted_same, updated_over, recvs_opened, sends_opened, counted_raised, none_counted}
 
 -- Changes that end no half
 
 pub sends_same : (role : Role) (recvs : Tables RecvLane) (sends now : Tables SendLane) (n : ℕ) (f : SendLane → SendLane) (e : ByDir ℕ) → AreAllCounted role recvs sends e → now ≡ updated sends n f (lookup sends n)
     → ((l : SendLane) → lookup sends n ≡ Some l → send_ended (f l) ≡ send_ended l) → AreAllCounted role recvs now e
 sends_same role recvs sends now n f e h after same =
-    subst (AreAllCounted role recvs now) (ap (λ a. recounted n (is_over role recvs sends n) a e) over_same ∙ nothing_recounted n (is_over role recvs sends n) e)
-    (send_recounted role recvs sends now n f e _ (is_over role recvs sends n) (is_over role recvs now n) h after refl refl refl)
-  where
-    at : (o : Option SendLane) → lookup sends n ≡ o → now ≡ updated sends n f o → send_over (lookup now n) ≡ send_over o
-    at None there is = ap (λ (t : Tables SendLane). send_over (lookup t n)) is ∙ ap send_over there
-    at (Some l) there is = ap (λ (t : Tables SendLane). send_over (lookup t n)) is ∙ ap send_over (lookup_same sends n l (f l) there) ∙ same l there
-
-    over_same : is_over role recvs now n ≡ is_over role recvs sends n
-    over_same = ap (λ b. over role n (recv_over (lookup recvs n)) b) (at (lookup sends n) refl after)
+    counted_same role recvs sends e h recvs now (λ m. ap (over role m (recv_over (lookup recvs m))) (updated_over send_over sends now n f after same m))
 
 pub recvs_same : (role : Role) (recvs now : Tables RecvLane) (sends : Tables SendLane) (n : ℕ) (f : RecvLane → RecvLane) (e : ByDir ℕ) → AreAllCounted role recvs sends e → now ≡ updated recvs n f (lookup recvs n)
     → ((l : RecvLane) → lookup recvs n ≡ Some l → recv_ended (f l) ≡ recv_ended l) → AreAllCounted role now sends e
 recvs_same role recvs now sends n f e h after same =
-    subst (AreAllCounted role now sends) (ap (λ a. recounted n (is_over role recvs sends n) a e) over_same ∙ nothing_recounted n (is_over role recvs sends n) e)
-    (recv_recounted role recvs now sends n f e _ (is_over role recvs sends n) (is_over role now sends n) h after refl refl refl)
-  where
-    at : (o : Option RecvLane) → lookup recvs n ≡ o → now ≡ updated recvs n f o → recv_over (lookup now n) ≡ recv_over o
-    at None there is = ap (λ (t : Tables RecvLane). recv_over (lookup t n)) is ∙ ap recv_over there
-    at (Some l) there is = ap (λ (t : Tables RecvLane). recv_over (lookup t n)) is ∙ ap recv_over (lookup_same recvs n l (f l) there) ∙ same l there
-
-    over_same : is_over role now sends n ≡ is_over role recvs sends n
-    over_same = ap (λ b. over role n b (send_over (lookup sends n))) (at (lookup recvs n) refl after)
+    counted_same role recvs sends e h now sends (λ m. ap (λ b. over role m b (send_over (lookup sends m))) (updated_over recv_over recvs now n f after same m))
 
 -- What holds of an endpoint's counts
 
@@ -84,21 +67,14 @@ open_still None true f a is = absurd (both_ways true is refl)
 open_still None false true a is = refl
 open_still None false false a is = refl
 
-ends_as_before : (code : ℕ) (l : SendLane) (t : Bool) → is_some (reset_refusal l) ≡ t → send_ended (cond t l (record l { kept = []; was_reset = Some (record { code = code; size = cond l.fin_sent l.written l.sent_end }) })) ≡ send_ended l
-ends_as_before code l true is = refl
-ends_as_before code l false is = open_still l.was_reset (is_whole l) l.finished l.reset_acked is
+-- one that is broken off, or whose peer stops reading
+pub ends_as_reset : (code : ℕ) (l : SendLane) → send_ended (reset_lane l code) ≡ send_ended l
+ends_as_reset code l = cond_both (is_some (reset_refusal l)) l (broken_off l code) (λ (k : SendLane). send_ended k ≡ send_ended l) (λ refused. refl) (λ goes. open_still l.was_reset (is_whole l) l.finished l.reset_acked goes)
 
-ends_as_stopped : (answers : Bool) (code : ℕ) (l : SendLane) → send_ended (stop_taken answers l code) ≡ send_ended l
-ends_as_stopped true code l = go (is_some (reset_refusal l))
-  where
-    go : (t : Bool) → send_ended (cond t l (record l { stopped = first_code l.stopped code })) ≡ send_ended l
-    go true = refl
-    go false = refl
-ends_as_stopped false code l = go (is_some (reset_refusal l)) refl
-  where
-    go : (t : Bool) → is_some (reset_refusal l) ≡ t → send_ended (cond t l (record (broken_off l code) { stopped = first_code l.stopped code })) ≡ send_ended l
-    go true is = refl
-    go false is = open_still l.was_reset (is_whole l) l.finished l.reset_acked is
+pub ends_as_stopped : (answers : Bool) (code : ℕ) (l : SendLane) → send_ended (stop_taken answers l code) ≡ send_ended l
+ends_as_stopped true code l = cond_both (is_some (reset_refusal l)) l (record l { stopped = first_code l.stopped code }) (λ (k : SendLane). send_ended k ≡ send_ended l) (λ refused. refl) (λ goes. refl)
+ends_as_stopped false code l =
+    cond_both (is_some (reset_refusal l)) l (record (broken_off l code) { stopped = first_code l.stopped code }) (λ (k : SendLane). send_ended k ≡ send_ended l) (λ refused. refl) (λ goes. open_still l.was_reset (is_whole l) l.finished l.reset_acked goes)
 
 module _ (role : Role) (s : Settings) (recvs : Tables RecvLane) (sends : Tables SendLane) (e : ByDir ℕ) (b u : ℕ) (h : CountsFit role s recvs sends e b u) where
   pub fit_sends : (now : Tables SendLane) (e' : ByDir ℕ) → AreAllCounted role recvs now e' → CountsFit role s recvs now e' b u
@@ -116,19 +92,11 @@ module _ (role : Role) (s : Settings) (recvs : Tables RecvLane) (sends : Tables 
   -- a stop
   pub fit_stopped : (now : Tables RecvLane) (n code : ℕ) → now ≡ updated recvs n (λ l. stop l code) (lookup recvs n) → CountsFit role s now sends e b u
   fit_stopped now n code is =
-      fit_recvs now sends e (recvs_same role recvs now sends n (λ l. stop l code) e h.counted is (λ l there. by_test (is_some l.stop_code || is_read_off l) l))
-      (told_updated recvs now n (λ l. stop l code) h.told is (λ l there told. still_stopped (is_some l.stop_code || is_read_off l) l told))
+      fit_recvs now sends e (recvs_same role recvs now sends n (λ l. stop l code) e h.counted is (λ l there. cond_both (is_some l.stop_code || is_read_off l) l (off l) (λ (k : RecvLane). recv_ended k ≡ recv_ended l) (λ stays. refl) (λ goes. refl)))
+      (told_updated recvs now n (λ l. stop l code) h.told is (λ l there told. cond_both (is_some l.stop_code || is_read_off l) l (off l) (λ (k : RecvLane). IsToldOfEnd (Some k)) (λ stays. told) (λ goes is. inr refl)))
     where
-      stopped : RecvLane → RecvLane
-      stopped l = record l { arrived = discard l.arrived; stop_code = Some code }
-
-      by_test : (t : Bool) (l : RecvLane) → recv_ended (cond t l (stopped l)) ≡ recv_ended l
-      by_test true l = refl
-      by_test false l = refl
-
-      still_stopped : (t : Bool) (l : RecvLane) → IsToldOfEnd (Some l) → IsToldOfEnd (Some (cond t l (stopped l)))
-      still_stopped true l told is = told is
-      still_stopped false l told is = inr refl
+      off : RecvLane → RecvLane
+      off l = record l { arrived = discard l.arrived; stop_code = Some code }
 
   -- another window
   pub fit_windowed : (now : Tables RecvLane) (n w : ℕ) → now ≡ updated recvs n (λ l. set_window l w) (lookup recvs n) → CountsFit role s now sends e b u
@@ -146,18 +114,11 @@ module _ (role : Role) (s : Settings) (recvs : Tables RecvLane) (sends : Tables 
       → CountsFit role s now sends e' b u
   fit_broken now n code size e' was is after before behind to =
       recounts now n (λ l. take_reset l code size) e' was is after before behind to
-      (λ l there told. still_told l (take_reset l code size) told (same_told (is_some l.reset_code || recv_whole l) l) (reset_stays_ended l code size) (same_stop (is_some l.reset_code || recv_whole l) l))
+      (λ l there told. still_told l (take_reset l code size) told (cond_both (is_some l.reset_code || recv_whole l) l (broken l) (λ (k : RecvLane). k.reader_done ≡ l.reader_done) (λ stays. refl) (λ goes. refl)) (reset_stays_ended l code size)
+      (λ off. cond_both (is_some l.reset_code || recv_whole l) l (broken l) (λ (k : RecvLane). is_some k.stop_code ≡ true) (λ stays. off) (λ goes. off)))
     where
       broken : RecvLane → RecvLane
       broken l = record l { arrived = forget l.arrived; final_size = Some size; reset_code = Some code }
-
-      same_told : (t : Bool) (l : RecvLane) → (cond t l (broken l)).reader_done ≡ l.reader_done
-      same_told true l = refl
-      same_told false l = refl
-
-      same_stop : (t : Bool) (l : RecvLane) → is_some l.stop_code ≡ true → is_some (cond t l (broken l)).stop_code ≡ true
-      same_stop true l is = is
-      same_stop false l is = is
 
   module _ (p : Present) (g : ℕ) (k : KeepsCredit role s p recvs g) where
     lawful_at : (n : ℕ) (l : RecvLane) → lookup recvs n ≡ Some l → IsLawful l
@@ -177,17 +138,15 @@ module _ (role : Role) (s : Settings) (recvs : Tables RecvLane) (sends : Tables 
     fit_read now n size e' was is after before behind to =
         fit_recvs now sends e' (recv_recounted role recvs now sends n (λ l. after_read l size) e e' was is h.counted after before behind to) (told_read recvs now n size h.told after (lawful_at n))
 
-  pub fit_allowed : (now : Tables SendLane) (n limit : ℕ) → now ≡ updated sends n (λ l. allow_lane l limit) (lookup sends n) → CountsFit role s recvs now e b u
-  fit_allowed now n limit is = fit_sends now e (sends_same role recvs sends now n (λ l. allow_lane l limit) e h.counted is (λ l there. refl))
-
-  pub fit_buffered : (now : Tables SendLane) (n size : ℕ) → now ≡ updated sends n (λ l. buffer_lane l size) (lookup sends n) → CountsFit role s recvs now e b u
-  fit_buffered now n size is = fit_sends now e (sends_same role recvs sends now n (λ l. buffer_lane l size) e h.counted is (λ l there. refl))
+  -- a sending half changes, and doesn't come to its end by that
+  pub fit_sent : (now : Tables SendLane) (n : ℕ) (f : SendLane → SendLane) → now ≡ updated sends n f (lookup sends n) → ((l : SendLane) → lookup sends n ≡ Some l → send_ended (f l) ≡ send_ended l) → CountsFit role s recvs now e b u
+  fit_sent now n f is same = fit_sends now e (sends_same role recvs sends now n f e h.counted is same)
 
   -- bytes are written, of a half that isn't finished
   pub fit_written : (now : Tables SendLane) (n : ℕ) (bytes : List ℕ) → refusal (or_none (lookup sends n)) ≡ None → now ≡ updated sends n (λ l. write_lane l bytes) (lookup sends n) → CountsFit role s recvs now e b u
   fit_written now n bytes allowed is =
-      fit_sends now e (sends_same role recvs sends now n (λ l. write_lane l bytes) e h.counted is (λ l there.
-      not_finished l.was_reset l.finished l.reset_acked (is_whole (write_lane l bytes)) (is_whole l) (subst (λ o. refusal (or_none o) ≡ None) there allowed)))
+      fit_sent now n (λ l. write_lane l bytes) is (λ l there.
+      not_finished l.was_reset l.finished l.reset_acked (is_whole (write_lane l bytes)) (is_whole l) (subst (λ o. refusal (or_none o) ≡ None) there allowed))
     where
       not_finished : (r : Option Reset) (f a v w : Bool) → cond (is_some r) (Some WasReset) (cond f (Some Finished) None) ≡ None → (a || (is_none r && f && v)) ≡ (a || (is_none r && f && w))
       not_finished (Some r) f a v w none = refl
@@ -196,28 +155,18 @@ module _ (role : Role) (s : Settings) (recvs : Tables RecvLane) (sends : Tables 
 
   -- the end is asked for, of a half that isn't finished
   pub fit_finished : (now : Tables SendLane) (n : ℕ) (o : Outgoing) (half : Sending) → o.sends ≡ sends → HasSending o n half → answer_of (refusal (or_none (lookup sends n))) ≡ Ok tt → now ≡ updated sends n finish_lane (lookup sends n) → CountsFit role s recvs now e b u
-  fit_finished now n o half same has allowed is = fit_sends now e (sends_same role recvs sends now n finish_lane e h.counted is each_lane)
+  fit_finished now n o half same has allowed is = fit_sent now n finish_lane is each_lane
     where
       finished : (r : Option Reset) (f a from end : Bool) → answer_of (cond (is_some r) (Some WasReset) (cond f (Some Finished) None)) ≡ Ok tt → (end ≡ true → f ≡ true) → (a || (is_none r && true && (from && end))) ≡ (a || (is_none r && f && (from && end)))
       finished (Some r) f a from end ok asked = refl
-      finished None true a from end ok asked = refl
       finished None false a true true ok asked = absurd (both_ways false refl (asked refl))
-      finished None false a true false ok asked = refl
-      finished None false a false end ok asked = refl
+      finished None _ a _ _ ok asked = refl
 
       each_lane : (l : SendLane) → lookup sends n ≡ Some l → send_ended (finish_lane l) ≡ send_ended l
       each_lane l there =
           let lane : half.lane ≡ l = same_Some half.lane l (sym has.lane ∙ ap (λ (t : Tables SendLane). lookup t n) same ∙ there) in
           finished l.was_reset l.finished l.reset_acked (unacked_from l == l.written) l.fin_acked (subst (λ x. answer_of (refusal (or_none x)) ≡ Ok tt) there allowed)
           (subst (λ (x : SendLane). x.fin_acked ≡ true → x.finished ≡ true) lane (λ acked. has.lawful.ends.sent_asked (has.lawful.ends.acked_sent acked)))
-
-  -- a half is broken off
-  pub fit_reset : (now : Tables SendLane) (n code : ℕ) → now ≡ updated sends n (λ l. reset_lane l code) (lookup sends n) → CountsFit role s recvs now e b u
-  fit_reset now n code is = fit_sends now e (sends_same role recvs sends now n (λ l. reset_lane l code) e h.counted is (λ l there. ends_as_before code l (is_some (reset_refusal l)) refl))
-
-  -- the peer stops reading
-  pub fit_told_to_stop : (now : Tables SendLane) (answers : Bool) (n code : ℕ) → now ≡ updated sends n (λ l. stop_taken answers l code) (lookup sends n) → CountsFit role s recvs now e b u
-  fit_told_to_stop now answers n code is = fit_sends now e (sends_same role recvs sends now n (λ l. stop_taken answers l code) e h.counted is (λ l there. ends_as_stopped answers code l))
 
   -- streams are opened
   pub fit_opened : (now_r : Tables RecvLane) (now_s : Tables SendLane) (n w : ℕ) (share : Share) (limit buffer : ℕ) (no_send no_recv : Bool) → now_s ≡ cond no_send sends (open_to sends n (λ m. new_send_lane m limit buffer))
@@ -246,14 +195,10 @@ opened_counted e n c true h = h
 opened_counted e n c false h =
     recvs_opened e.role e.recvs _ _ c n (first_window e n) e.tuning.credit_step (is_uni n && is_own e n) (sends_opened e.role e.recvs e.sends _ c n (first_send_limit e n) e.settings.send_buffer (is_uni n && not (is_own e n)) h refl) refl
 
-same_role : (e : End) (n : ℕ) (own : Bool) → (cond own e (opens n e)).role ≡ e.role
-same_role e n true = refl
-same_role e n false = refl
-
 pub closed_counted : (e mid : End) (n : ℕ) (recvs : Tables RecvLane) (sends : Tables SendLane) (c c' : ByDir ℕ) → mid ≡ opened_by_peer n e → recvs ≡ e.recvs → sends ≡ e.sends → AreAllCounted e.role e.recvs e.sends c → AreAllCounted mid.role mid.recvs mid.sends c'
     → AreAllCounted mid.role recvs sends c'
 closed_counted e mid n recvs sends c c' is r s h mid_h =
-    let role : mid.role ≡ e.role = ap (λ (x : End). x.role) is ∙ same_role e n (is_own e n) in
+    let role : mid.role ≡ e.role = ap (λ (x : End). x.role) is ∙ cond_both (is_own e n) e (opens n e) (λ (x : End). x.role ≡ e.role) (λ own. refl) (λ new. refl) in
     let opened : AreAllCounted e.role mid.recvs mid.sends c = subst (λ (x : End). AreAllCounted e.role x.recvs x.sends c) (sym is) (opened_counted e n c (is_own e n) h) in
     let after : AreAllCounted e.role mid.recvs mid.sends c' = subst (λ (x : Role). AreAllCounted x mid.recvs mid.sends c') role mid_h in
     let back : AreAllCounted e.role e.recvs e.sends c' = record { bidi = after.bidi ∙ sym opened.bidi ∙ h.bidi; uni = after.uni ∙ sym opened.uni ∙ h.uni } in
@@ -264,8 +209,7 @@ closed_counted e mid n recvs sends c c' is r s h mid_h =
 pub put_counted : (role : Role) (e : End) (x : Seen) (c : ByDir ℕ) → AreAllCounted role e.recvs e.sends c → AreAllCounted role (frame_put x e).recvs (frame_put x e).sends c
 unfolding frame_put
 put_counted role e (Stream n offset bytes fin) c h = sends_same role e.recvs e.sends _ n (λ l. sent_lane l (chunk_of offset bytes fin)) c h refl (λ l there. refl)
-put_counted role e (Control i) c h =
-    each_item (λ j. AreAllCounted role (frame_put (Control j) e).recvs (frame_put (Control j) e).sends c) (λ m. h) (λ n m. h) (λ d m. h) (λ n code size. h) (λ n code. h) (λ m. h) (λ n m. sends_same role e.recvs e.sends _ n blocked_lane c h refl (λ l there. refl)) (λ d m. h) i
+put_counted role e (Control (StreamDataBlocked n m)) c h = sends_same role e.recvs e.sends _ n blocked_lane c h refl (λ l there. refl)
 put_counted _ _ _ _ h = h
 
 -- a piece of a stream is acknowledged, and the stream is counted anew
@@ -275,8 +219,5 @@ piece_recounted role recvs late k n p o new e e' was is half after h before behi
   where
     go : (p : Piece) → half_of p ≡ Some n → new.sends ≡ (first_acked_out (acked_at late k p) o).sends → AreAllCounted role recvs new.sends e'
     go (Data m c) half at = (let same : m ≡ n = same_Some m n half in send_recounted role recvs o.sends new.sends n (λ l. acked_lane l c) e e' was is h (at ∙ ap (λ j. updated o.sends j (λ l. acked_lane l c) (lookup o.sends j)) same) before behind to)
-    go (Told i) half at =
-        each_item (λ j. half_of (Told j) ≡ Some n → new.sends ≡ (first_acked_out (acked_at late k (Told j)) o).sends → AreAllCounted role recvs new.sends e')
-        (λ m none at. absurd (none-some n none)) (λ m x none at. absurd (none-some n none)) (λ d m none at. absurd (none-some n none))
-        (λ m code size half at. (let same : m ≡ n = same_Some m n half in send_recounted role recvs o.sends new.sends n reset_acked_lane e e' was is h (at ∙ ap (λ j. updated o.sends j reset_acked_lane (lookup o.sends j)) same) before behind to))
-        (λ m code none at. absurd (none-some n none)) (λ m none at. absurd (none-some n none)) (λ m x none at. absurd (none-some n none)) (λ d m none at. absurd (none-some n none)) i half at
+    go (Told (ResetStream m code size)) half at = (let same : m ≡ n = same_Some m n half in send_recounted role recvs o.sends new.sends n reset_acked_lane e e' was is h (at ∙ ap (λ j. updated o.sends j reset_acked_lane (lookup o.sends j)) same) before behind to)
+    go _ none at = absurd (none-some n none)

@@ -41,29 +41,11 @@ module _ (e : End) (h : Hearing) where
   refused_next answer is (news, same, takes) = (news, subst (IsFirstNews e h) same is, takes)
 
   -- The properties that are sought
-  abbrev pub Untold : ℕ → Type 0
-  Untold n = IsReadable e n × (is_told h.readable n ≡ false)
-
-  abbrev pub Short : ℕ → Type 0
-  Short n = (0 < room e n) × (is_told h.short n ≡ true)
-
-  abbrev pub Stop : ℕ → Type 0
-  Stop n = (is_some (stopped_with e n) ≡ true) × (is_told h.stopped n ≡ false)
-
   abbrev pub Sent : ℕ → Type 0
   Sent n = IsHeld (λ l. send_ended l ≡ true) e.sends n × (is_told h.sent n ≡ false)
 
-  abbrev pub Over : ℕ → Type 0
-  Over n = IsEnded e n × (is_told h.ended n ≡ false)
-
   abbrev pub Freed : Dir → Type 0
   Freed d = MayOpen e d × (wants h d ≡ true)
-
-  abbrev pub HeldBack : Dir → Type 0
-  HeldBack d = (e.closed ≡ None) × (is_held_back h.blocked d ≡ true)
-
-  abbrev pub Met : ℕ → Type 0
-  Met n = (e.closed ≡ None) × (is_told h.blocked.streams n ≡ true)
 
   abbrev pub OfDir : (Dir → Type 0) → ℕ → Type 0
   OfDir P place = (d : Dir) × (place ≡ place_of d) × P d
@@ -71,15 +53,15 @@ module _ (e : End) (h : Hearing) where
   -- what news of a kind says of its subject
   abbrev pub Says : ℕ → ℕ → Type 0
   Says zero n = IsNextOpened e h n
-  Says (suc zero) n = Untold n
-  Says (suc (suc zero)) n = Short n
-  Says (suc (suc (suc zero))) n = Stop n
+  Says (suc zero) n = IsReadable e n × (is_told h.readable n ≡ false)
+  Says (suc (suc zero)) n = (0 < room e n) × (is_told h.short n ≡ true)
+  Says (suc (suc (suc zero))) n = (is_some (stopped_with e n) ≡ true) × (is_told h.stopped n ≡ false)
   Says (suc (suc (suc (suc zero)))) n = Sent n
-  Says (suc (suc (suc (suc (suc zero))))) n = Over n
+  Says (suc (suc (suc (suc (suc zero))))) n = IsEnded e n × (is_told h.ended n ≡ false)
   Says (suc (suc (suc (suc (suc (suc zero)))))) n = OfDir Freed n
   Says (suc (suc (suc (suc (suc (suc (suc zero))))))) n = (e.closed ≡ None) × (h.blocked.conn ≡ true)
-  Says (suc (suc (suc (suc (suc (suc (suc (suc zero)))))))) n = Met n
-  Says (suc (suc (suc (suc (suc (suc (suc (suc (suc k))))))))) n = OfDir HeldBack n
+  Says (suc (suc (suc (suc (suc (suc (suc (suc zero)))))))) n = (e.closed ≡ None) × (is_told h.blocked.streams n ≡ true)
+  Says (suc (suc (suc (suc (suc (suc (suc (suc (suc k))))))))) n = OfDir (λ d. (e.closed ≡ None) × (is_held_back h.blocked d ≡ true)) n
 
   reset_ended : (l : SendLane) → l.reset_acked ≡ true → send_ended l ≡ true
   reset_ended l is = rw is refl

@@ -46,13 +46,6 @@ module _ (marks others told : List Bool) (from : ℕ) where
         | inr over ↦ told_below (both marks others) told i (full i (omega (arith, is, le, lt, over)))
       ])
 
--- indexes without a mark are opened
-pub next_opened : (marks : List Bool) (n from : ℕ) (r : Option ℕ) → IsNextMark marks from r → IsNextMark (marks ++ replicate n false) from r
-next_opened marks n from r next = record {
-  found = λ m is. (let f = next.found m is in (f.0, padded marks n m false ∙ f.1));
-  unmarked = λ i ge before. padded marks n i false ∙ next.unmarked i ge before;
-}
-
 -- none is marked past them
 pub unmarked_opened : {A E : Type 0} (r : Result A E) (marks now : List Bool) (n past : ℕ) → OnOk r (now ≡ marks ++ replicate n false) → OnErr r (now ≡ marks) → AreUnmarkedFrom marks past → AreUnmarkedFrom now past
 unmarked_opened (Ok a) marks now n past ok err clear = rw ok (λ i le. padded marks n i false ∙ clear i le)
@@ -125,8 +118,12 @@ module _ {A E : Type 0} (r : Result A E) (marks words marks_now words_now : List
       }
       go (Err e) ok err = rw err widened
 
+-- indexes without a mark are opened
 pub next_open : {A E : Type 0} (r : Result A E) (marks now : List Bool) (n : ℕ) (first : Option ℕ) → OnOk r (now ≡ marks ++ replicate n false) → OnErr r (now ≡ marks) → IsNextMark marks 0 first → IsNextMark now 0 first
-next_open (Ok a) marks now n first ok err next = rw ok (next_opened marks n 0 first next)
+next_open (Ok a) marks now n first ok err next = rw ok (record {
+  found = λ m is. (let f = next.found m is in (f.0, padded marks n m false ∙ f.1));
+  unmarked = λ i ge before. padded marks n i false ∙ next.unmarked i ge before;
+})
 next_open (Err e) marks now n first ok err next = rw err next
 
 -- one mark is set or taken away, and its word's flag with it

@@ -1,6 +1,7 @@
 -- What lets an end make packets: each call keeps it.
 use Rattle.std.proofs.Common.{◌≡◌, ℕ, zero, suc, ◌+◌, ◌<◌, ◌≤◌, Bool, true, false, [], Option, None, Some, is_some, cond, refl, sym, ap, ◌∙◌, subst, arith, inl, inr}
-use Rattle.std.proofs.lemmas.Bool.{both_ways, cases_lt}
+use Rattle.qs_send.specs.declared.piece.Item.TheVariants.{ResetStream, StreamDataBlocked}
+use Rattle.std.proofs.lemmas.Bool.{both_ways, cases_lt, cond_both}
 use Rattle.std.proofs.lemmas.Bool.Decides.{nat_tests}
 use Rattle.std.specs.Ordering.{nat_cmp}
 use Rattle.std.specs.FinSet as set
@@ -9,14 +10,13 @@ use Rattle.qs_ranges.proofs.Starts.{contains-run_starts, len-run_starts-with_ran
 use Rattle.qs_send.specs.declared.piece.Item.{Item}
 use Rattle.qs_send.specs.declared.piece.Piece.{Piece}
 use Rattle.qs_send.specs.declared.piece.Piece.TheVariants.{Data, Told}
-use Rattle.qs_send.specs.Lane.{SendLane, reset_refusal, broken_off, first_code, stop_taken, acked_lane, reset_acked_lane, blocked_lane}
+use Rattle.qs_send.specs.Lane.{SendLane, reset_lane, reset_refusal, broken_off, first_code, stop_taken, acked_lane, reset_acked_lane, blocked_lane}
 use Rattle.qs_machine.specs.Tables.{Tables, no_streams, lookup, updated, total}
 use Rattle.qs_machine.specs.Recording.{has_too_many, lowest_end}
 use Rattle.qs_machine.specs.Outgoing.{Outgoing, sent_sum, piece_acked_out, item_put_out}
 use Rattle.qs_machine.proofs.TableLaws.{total_update}
 use Rattle.qs_machine.proofs.RunLaws.{lowest_run, lowest_end_is}
 use Rattle.qs_conn.proofs.AckLaws.{count_runs}
-use Rattle.qs_conn.proofs.EachItem.{each_item}
 
 -- A new end
 
@@ -36,29 +36,22 @@ sum_lane t n f same = go (lookup t n) refl
     go None is = refl
     go (Some l) is = (let e = total_update (λ (m : SendLane). m.sent_end) t n l (f l) is in let s = same l in omega (arith, e, s))
 
-pub reset_sends : (code : ℕ) (l : SendLane) (b : Bool) → (cond b l (record l { kept = []; was_reset = Some (record { code = code; size = cond l.fin_sent l.written l.sent_end }) })).sent_end ≡ l.sent_end
-reset_sends code l true = refl
-reset_sends code l false = refl
+pub reset_sends : (code : ℕ) (l : SendLane) → (reset_lane l code).sent_end ≡ l.sent_end
+reset_sends code l = cond_both (is_some (reset_refusal l)) l (broken_off l code) (λ (k : SendLane). k.sent_end ≡ l.sent_end) (λ refused. refl) (λ goes. refl)
 
 pub stop_sends : (answers : Bool) (code : ℕ) (l : SendLane) → (stop_taken answers l code).sent_end ≡ l.sent_end
-stop_sends true code l = go (is_some (reset_refusal l))
-  where
-    go : (b : Bool) → (cond b l (record l { stopped = first_code l.stopped code })).sent_end ≡ l.sent_end
-    go true = refl
-    go false = refl
-stop_sends false code l = go (is_some (reset_refusal l))
-  where
-    go : (b : Bool) → (cond b l (record (broken_off l code) { stopped = first_code l.stopped code })).sent_end ≡ l.sent_end
-    go true = refl
-    go false = refl
+stop_sends true code l = cond_both (is_some (reset_refusal l)) l (record l { stopped = first_code l.stopped code }) (λ (k : SendLane). k.sent_end ≡ l.sent_end) (λ refused. refl) (λ goes. refl)
+stop_sends false code l = cond_both (is_some (reset_refusal l)) l (record (broken_off l code) { stopped = first_code l.stopped code }) (λ (k : SendLane). k.sent_end ≡ l.sent_end) (λ refused. refl) (λ goes. refl)
 
 pub sum_piece : (p : Piece) (o : Outgoing) → sent_sum (piece_acked_out p o).sends ≡ sent_sum o.sends
 sum_piece (Data n c) o = sum_lane o.sends n (λ l. acked_lane l c) (λ l. refl)
-sum_piece (Told i) o = each_item (λ j. sent_sum (piece_acked_out (Told j) o).sends ≡ sent_sum o.sends) (λ m. refl) (λ n m. refl) (λ d m. refl) (λ n code size. sum_lane o.sends n reset_acked_lane (λ l. refl)) (λ n code. refl) (λ m. refl) (λ n m. refl) (λ d m. refl) i
+sum_piece (Told (ResetStream n code size)) o = sum_lane o.sends n reset_acked_lane (λ l. refl)
+sum_piece (Told _) o = refl
 
 -- items send no byte
 pub sum_put : (i : Item) (o : Outgoing) → sent_sum (item_put_out i o).sends ≡ sent_sum o.sends
-sum_put i o = each_item (λ j. sent_sum (item_put_out j o).sends ≡ sent_sum o.sends) (λ m. refl) (λ n m. refl) (λ d m. refl) (λ n code size. refl) (λ n code. refl) (λ m. refl) (λ n m. sum_lane o.sends n blocked_lane (λ l. refl)) (λ d m. refl) i
+sum_put (StreamDataBlocked n m) o = sum_lane o.sends n blocked_lane (λ l. refl)
+sum_put _ o = refl
 
 -- A packet's number is kept
 

@@ -85,18 +85,15 @@ next_here e h d lt =
     let is = theirs_of_kind e d n kind in
     (record { theirs = is.theirs; opened = rw (kind, index) lt; next = rw (is.dir) index }, is.dir)
 
+next_parts : (e : End) (h : Hearing) (d : Dir) (n : ℕ) → NextOf e h d n → (type_of n ≡ peer_type e d) × (index_of n ≡ heard_opened h d)
+next_parts e h d n (is, dir) = (kind_of_theirs e n is.theirs ∙ ap (peer_type e) dir, is.next ∙ ap (heard_opened h) dir)
+
 -- there is no other
 next_same : (e : End) (h : Hearing) (d : Dir) (n : ℕ) → NextOf e h d n → n ≡ heard_opened h d * 4 + peer_type e d
-next_same e h d n (is, dir) =
-    let kind : type_of n ≡ peer_type e d = kind_of_theirs e n is.theirs ∙ ap (peer_type e) dir in
-    let index : index_of n ≡ heard_opened h d = is.next ∙ ap (heard_opened h) dir in
-    omega (arith, kind, index)
+next_same e h d n next = let (kind, index) = next_parts e h d n next in omega (arith, kind, index)
 
 next_opened : (e : End) (h : Hearing) (d : Dir) (n : ℕ) → NextOf e h d n → heard_opened h d < opened_count e (peer_type e d)
-next_opened e h d n (is, dir) =
-    let kind : type_of n ≡ peer_type e d = kind_of_theirs e n is.theirs ∙ ap (peer_type e) dir in
-    let index : index_of n ≡ heard_opened h d = is.next ∙ ap (heard_opened h) dir in
-    subst (λ (i : ℕ). i < opened_count e (peer_type e d)) index (subst (λ (k : ℕ). index_of n < opened_count e k) kind is.opened)
+next_opened e h d n next = let (kind, index) = next_parts e h d n next in subst (λ (i : ℕ). i < opened_count e (peer_type e d)) index (subst (λ (k : ℕ). index_of n < opened_count e k) kind next.0.opened)
 
 least_of_dir : (e : End) (h : Hearing) (d : Dir) → IsLeast (NextOf e h d) 0 (next_of_peer e d (heard_opened h d))
 least_of_dir e h d = go (nat_lt (heard_opened h d) (opened_count e (peer_type e d))) refl
@@ -133,45 +130,40 @@ least_opened e h =
 pub least_as : (P Q : ℕ → Type 0) (from : ℕ) (r : Option ℕ) → ((n : ℕ) → P n → Q n) → ((n : ℕ) → Q n → P n) → IsLeast P from r → IsLeast Q from r
 least_as P Q from r there back h = record { found = λ n is. (let f = h.found n is in (f.0, there n f.1)); least = λ n ge q. h.least n ge (back n q) }
 
+-- a half of which something holds, that holds of none that isn't there
+held_by : {L : Type 0} (P : Option L → Type 0) (Q : L → Type 0) → ((l : L) → P (Some l) → Q l) → (P None → ⊥) → (t : Tables L) (n : ℕ) → P (lookup t n) → IsHeld Q t n
+held_by {L} P Q holds none t n = go (lookup t n) refl
+  where
+    go : (x : Option L) → lookup t n ≡ x → P x → IsHeld Q t n
+    go (Some l) at is = (l, at, holds l is)
+    go None at is = absurd (none is)
+
 pub stopped_there : (t : Tables SendLane) (n : ℕ) → IsHeld WasStopped t n → is_some (stop_of (lookup t n)) ≡ true
 stopped_there t n (l, at, is) = rw at is
 
 pub stopped_back : (t : Tables SendLane) (n : ℕ) → is_some (stop_of (lookup t n)) ≡ true → IsHeld WasStopped t n
-stopped_back t n is = go (lookup t n) refl is
-  where
-    go : (x : Option SendLane) → lookup t n ≡ x → is_some (stop_of x) ≡ true → IsHeld WasStopped t n
-    go (Some l) at some = (l, at, some)
-    go None at some = absurd (true≢false (sym some))
+stopped_back = held_by (λ x. is_some (stop_of x) ≡ true) WasStopped (λ l is. is) (λ is. true≢false (sym is))
 
-pub readable_there : (t : Tables RecvLane) (n : ℕ) → has_one recv_tasks.Readable (lookup t n) ≡ true → IsHeld (λ l. is_readable l ≡ true) t n
-readable_there t n is = go (lookup t n) refl is
-  where
-    go : (x : Option RecvLane) → lookup t n ≡ x → has_one recv_tasks.Readable x ≡ true → IsHeld (λ l. is_readable l ≡ true) t n
-    go (Some l) at some = (l, at, some)
-    go None at some = absurd (true≢false (sym some))
+readable_there : (t : Tables RecvLane) (n : ℕ) → has_one recv_tasks.Readable (lookup t n) ≡ true → IsHeld (λ l. is_readable l ≡ true) t n
+readable_there = held_by (λ x. has_one recv_tasks.Readable x ≡ true) (λ l. is_readable l ≡ true) (λ l is. is) (λ is. true≢false (sym is))
 
-pub readable_back : (t : Tables RecvLane) (n : ℕ) → IsHeld (λ l. is_readable l ≡ true) t n → has_one recv_tasks.Readable (lookup t n) ≡ true
+readable_back : (t : Tables RecvLane) (n : ℕ) → IsHeld (λ l. is_readable l ≡ true) t n → has_one recv_tasks.Readable (lookup t n) ≡ true
 readable_back t n (l, at, is) = rw at is
 
 pub acked_there : (t : Tables SendLane) (n : ℕ) → IsAckedReset (lookup t n) → IsHeld WasResetAcked t n
-acked_there t n is = go (lookup t n) refl is
-  where
-    go : (x : Option SendLane) → lookup t n ≡ x → IsAckedReset x → IsHeld WasResetAcked t n
-    go (Some l) at acked = (l, at, acked)
-    go None at acked = absurd acked
+acked_there = held_by IsAckedReset WasResetAcked (λ l is. is) (λ none. none)
 
 -- one that takes a byte does so by its own buffer, and by its limit where writes keep within credit
 pub room_is : (e : End) (n : ℕ) → 0 < room e n → IsHeld (TakesAlone e) e.sends n
-room_is e n lt = go (is_some e.closed) (send_lane e n) refl lt
+room_is e n lt = go (is_some e.closed) lt
   where
     accepts : (l : SendLane) (x : Option SendFault) → refusal l ≡ x → 0 < (if is_some x then 0 else accepted_by e l (free_room l)) → TakesAlone e l
     accepts l None is some = takes_alone e l e.tuning.within_credit is some
     accepts l (Some fault) is some = absurd (omega (arith, some))
 
-    go : (b : Bool) (x : Option SendLane) → send_lane e n ≡ x → 0 < (if b then 0 else room_of e x) → IsHeld (TakesAlone e) e.sends n
-    go true x at some = absurd (omega (arith, some))
-    go false None at some = absurd (omega (arith, some))
-    go false (Some l) at some = (l, at, accepts l (refusal l) refl some)
+    go : (b : Bool) → 0 < (if b then 0 else room_of e (send_lane e n)) → IsHeld (TakesAlone e) e.sends n
+    go true some = absurd (omega (arith, some))
+    go false some = held_by (λ x. 0 < room_of e x) (TakesAlone e) (λ l. accepts l (refusal l) refl) (λ some. omega (arith, some)) e.sends n some
 
 -- no stream takes more bytes than it has offsets
 room_few : (e : End) (n : ℕ) → room e n ≤ MAX_VARINT

@@ -1,7 +1,7 @@
 -- Receiving lanes that are raised one by one, and marked.
-use Rattle.std.proofs.Common.{◌≡◌, ℕ, zero, suc, ◌+◌, ◌*◌, ◌/◌, ◌%◌, ◌<◌, ◌≤◌, nat_lt, Bool, true, false, cond, List, [], ◌∷◌, length, map, get_or, None, Some, slice_get, refl, sym, ap, ◌∙◌, subst, arith, inl, inr}
+use Rattle.std.proofs.Common.{◌≡◌, ℕ, zero, suc, ◌+◌, ◌*◌, ◌/◌, ◌%◌, ◌<◌, ◌≤◌, nat_lt, Bool, true, false, List, [], ◌∷◌, length, map, get_or, None, Some, slice_get, refl, sym, ap, ◌∙◌, subst, arith, inl, inr}
 use Rattle.std.proofs.Math.ListN.{set, length-set}
-use Rattle.std.proofs.lemmas.Bool.{cases_eq}
+use Rattle.std.proofs.lemmas.Bool.{cases_eq, cond_both}
 use Rattle.std.proofs.lemmas.Bool.Decides.{nat_tests}
 use Rattle.qs_machine.specs.Tables.{Tables, table, lookup, updated}
 use Rattle.qs_machine.specs.Sums.{tables_of, changed}
@@ -17,18 +17,11 @@ use Rattle.qs_conn.specs.Touches.{is_touched, IsTaken, IsSettled, AreSettled}
 -- Raised lanes are marked
 
 -- a limit that didn't rise is the next one already
-pub not_raised : (l : RecvLane) → raise_answer l ≡ None → raise l ≡ l
-not_raised l unraised = go (nat_lt l.limit (raised_limit l)) refl unraised
-  where
-    go : (b : Bool) → nat_lt l.limit (raised_limit l) ≡ b → cond b (Some (raised_limit l)) None ≡ None → raise l ≡ l
-    go true is gone = absurd (none-some (raised_limit l) (sym gone))
-    go false is gone =
-        let grows : l.limit ≤ raised_limit l = (raise_after l).limit in
-        let same : raised_limit l ≡ l.limit = grind (arith, nat_tests, is, grows) in
-        ap (λ k. record l { limit = k }) same
+pub not_raised : (l : RecvLane) → ((v : ℕ) → raise_answer l ≡ Some v → ⊥) → raise l ≡ l
+not_raised l none = cond_both (nat_lt l.limit (raised_limit l)) (Some (raised_limit l)) None (λ o. ((v : ℕ) → o ≡ Some v → ⊥) → raise l ≡ l) (λ up some. absurd (some (raised_limit l) refl)) (λ stays _. settled_raise l (grind (arith, nat_tests, stays, (raise_after l).limit))) none
 
 pub raised_none : (kind : ℕ) (xs : List RecvLane) (marks : Tables Bool) (i : ℕ) (x : RecvLane) → i < length xs → x ≡ get_or xs i x → raise_answer x ≡ None → IsRaisedMarked kind xs marks i
-raised_none kind xs marks i x lt at none l there free = subst (λ k. raise k ≡ k) (at ∙ get_or_from_slice_get xs i l x there) (not_raised x none)
+raised_none kind xs marks i x lt at none l there free = subst (λ k. raise k ≡ k) (at ∙ get_or_from_slice_get xs i l x there) (not_raised x (λ v is. none-some v (sym none ∙ is)))
 
 pub raised_some : (kind : ℕ) (xs : List RecvLane) (marks marks' : Tables Bool) (i n : ℕ) → n ≡ i * 4 + kind → marks' ≡ updated marks n (λ b. true) (lookup marks n) → IsRaisedMarked kind xs marks' i
 raised_some kind xs marks marks' i n is are l there free =
@@ -84,11 +77,9 @@ one_more kind xs ys now t new marks marks' k far lt taken is more here =
     ]
   where
     set_same : (zs : List RecvLane) (i j : ℕ) (z : RecvLane) → slice_get zs i ≡ Some z → slice_get (set zs i z) j ≡ slice_get zs j
-    set_same [] i j z at = refl
     set_same (y ∷ zs) zero zero z at = sym at
-    set_same (y ∷ zs) zero (suc j) z at = refl
-    set_same (y ∷ zs) (suc i) zero z at = refl
     set_same (y ∷ zs) (suc i) (suc j) z at = set_same zs i j z at
+    set_same _ i j z at = refl
 
 -- a touched index that isn't one
 pub past_more : (kind : ℕ) (xs ys : List RecvLane) (t new : Touches) (marks : Tables Bool) (k : ℕ) → AreRaisedSoFar kind xs ys t marks → length ys ≤ k → IsTaken t (Some k) new → AreRaisedSoFar kind xs ys new marks
@@ -114,11 +105,6 @@ all_marked kind xs now t marks far none i l at free = settled_raise l (far.settl
 pub raised_tables : (ls : List (List RecvLane)) (a b c d e f g : List RecvLane) (t u v w : Tables Bool) → length ls ≡ 4 → AreRaisedMarked 0 (get_or ls 0 d) t → AreRaisedMarked 1 (get_or (set ls 0 a) 1 e) u → AreRaisedMarked 2 (get_or (set (set ls 0 a) 1 b) 2 f) v
     → AreRaisedMarked 3 (get_or (set (set (set ls 0 a) 1 b) 2 c) 3 g) w → HasMore t u → HasMore u v → HasMore v w → (n : ℕ) (l : RecvLane) → lookup (tables_of ls) n ≡ Some l → lookup w n ≡ Some false → raise l ≡ l
 unfolding lookup
-raised_tables [] a b c d e f g t u v w len p q r s tu uv vw n l at free = absurd (omega (arith, len))
-raised_tables (x ∷ []) a b c d e f g t u v w len p q r s tu uv vw n l at free = absurd (omega (arith, len))
-raised_tables (x ∷ y ∷ []) a b c d e f g t u v w len p q r s tu uv vw n l at free = absurd (omega (arith, len))
-raised_tables (x ∷ y ∷ z ∷ []) a b c d e f g t u v w len p q r s tu uv vw n l at free = absurd (omega (arith, len))
-raised_tables (x ∷ y ∷ z ∷ k ∷ o ∷ ls) a b c d e f g t u v w len p q r s tu uv vw n l at free = absurd (omega (arith, len))
 raised_tables (x ∷ y ∷ z ∷ k ∷ []) a b c d e f g t u v w len p q r s tu uv vw n l at free = go (n % 4) refl (omega arith) at
   where
     in_v : lookup v n ≡ Some false
@@ -139,3 +125,4 @@ raised_tables (x ∷ y ∷ z ∷ k ∷ []) a b c d e f g t u v w len p q r s tu 
     go (suc (suc zero)) is lt there = r (n / 4) l there (placed 2 is v in_v)
     go (suc (suc (suc zero))) is lt there = s (n / 4) l there (placed 3 is w free)
     go (suc (suc (suc (suc j)))) is lt there = absurd (omega (arith, lt))
+raised_tables _ a b c d e f g t u v w len p q r s tu uv vw n l at free = absurd (omega (arith, len))

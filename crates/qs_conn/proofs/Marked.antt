@@ -11,7 +11,7 @@ use Rattle.std.specs.Result.{OnOk, OnErr}
 use Rattle.qs_conn.specs.Untold.{IsClear}
 use Rattle.qs_conn.specs.Marks.{is_marked, AreMarked, IsBefore, IsNextMark, HaveTo, least_of}
 use Rattle.qs_machine.specs.Sums.{tables_of}
-use Rattle.qs_machine.specs.Tables.{Tables, type_of, lookup, widened}
+use Rattle.qs_machine.specs.Tables.{Tables, lookup, widened}
 use Rattle.qs_machine.proofs.TableEdits.{lookup_is}
 
 pub mark_past : (ms : List Bool) (i : ℕ) → length ms ≤ i → is_marked ms i ≡ false
@@ -24,17 +24,15 @@ mark_is ms i b is = ap (set ms i) (sym is) ∙ set-get_or ms i false
 module _ {X : Type 0} (Q : X → Type 0) where
   pub marked_len : (xs : List X) (ms : List Bool) → AreMarked Q xs ms → length ms ≡ length xs
   marked_len [] [] h = refl
-  marked_len [] (m ∷ ms) h = absurd h
-  marked_len (x ∷ xs) [] h = absurd h
   marked_len (x ∷ xs) (m ∷ ms) h = ap suc (marked_len xs ms h.1)
+  marked_len _ _ h = absurd h
 
   -- a part without a mark
   pub unmarked_at : (xs : List X) (ms : List Bool) (i : ℕ) (x : X) → AreMarked Q xs ms → slice_get xs i ≡ Some x → is_marked ms i ≡ false → Q x
   unmarked_at [] [] i x h at no_mark = absurd (none-some x at)
-  unmarked_at [] (m ∷ ms) i x h at no_mark = absurd h
-  unmarked_at (z ∷ xs) [] i x h at no_mark = absurd h
   unmarked_at (z ∷ xs) (m ∷ ms) zero x h at no_mark = subst Q (same_Some z x at) (h.0 no_mark)
   unmarked_at (z ∷ xs) (m ∷ ms) (suc i) x h at no_mark = unmarked_at xs ms i x h.1 at no_mark
+  unmarked_at _ _ i x h at no_mark = absurd h
 
 -- the next one of the new marks is set
 pub mark_more : (ms now : List Bool) (k n : ℕ) → k < n → now ≡ ms ++ (replicate k true ++ replicate (n - k) false) → set now (length ms + k) true ≡ ms ++ (replicate (k + 1) true ++ replicate (n - (k + 1)) false)
@@ -44,11 +42,9 @@ mark_more ms now k n lt is = rw (is, left) (set-append_right ms (replicate k tru
     left = omega (arith, lt)
 
     at : (i m j : ℕ) → m ≡ i + 1 → set (replicate i true ++ replicate (suc j) false) i true ≡ replicate m true ++ replicate j false
-    at zero zero j e = absurd (omega (arith, e))
     at zero (suc zero) j e = refl
-    at zero (suc (suc m)) j e = absurd (omega (arith, e))
-    at (suc i) zero j e = absurd (omega (arith, e))
     at (suc i) (suc m) j e = ap (λ zs. true ∷ zs) (at i m j (omega (arith, e)))
+    at _ _ j e = absurd (omega (arith, e))
 
 -- Marks alone
 
@@ -93,24 +89,19 @@ least_has P None b p q = q
 least_has P (Some a) None p q = p
 least_has P (Some a) (Some b) p q = elim (cases_lt a b) [ inl lt ↦ (let e : min a b ≡ a = omega (arith, lt) in subst P (sym e) p) | inr ge ↦ (let e : min a b ≡ b = omega (arith, ge) in subst P (sym e) q) ]
 
-pub by_kinds : {X : Type 0} (P : ℕ → X → Type 0) (t : Tables X) (from : ℕ) (a b c d answer : Option ℕ) → ((n : ℕ) (x : X) → type_of n ≡ 0 → from ≤ n → IsBefore n a → lookup t n ≡ Some x → P n x) → ((n : ℕ) (x : X) → type_of n ≡ 1 → from ≤ n → IsBefore n b → lookup t n ≡ Some x → P n x)
-    → ((n : ℕ) (x : X) → type_of n ≡ 2 → from ≤ n → IsBefore n c → lookup t n ≡ Some x → P n x) → ((n : ℕ) (x : X) → type_of n ≡ 3 → from ≤ n → IsBefore n d → lookup t n ≡ Some x → P n x) → answer ≡ least_of (least_of a b) (least_of c d)
-    → (n : ℕ) (x : X) → from ≤ n → IsBefore n answer → lookup t n ≡ Some x → P n x
-by_kinds P t from a b c d answer qa qb qc qd is n x le before at = go (n % 4) refl (omega arith)
+pub all_kinds : {X : Type 0} (Q : X → Type 0) (t : Tables X) (from : ℕ) (a b c d answer : Option ℕ) → HaveTo Q t from a 0 → HaveTo Q t from b 1 → HaveTo Q t from c 2 → HaveTo Q t from d 3 → answer ≡ least_of (least_of a b) (least_of c d)
+    → (n : ℕ) (x : X) → from ≤ n → IsBefore n answer → lookup t n ≡ Some x → Q x
+all_kinds Q t from a b c d answer qa qb qc qd is n x le before at = go (n % 4) refl (omega arith)
   where
     parts : IsBefore n (least_of a b) × IsBefore n (least_of c d)
     parts = before_least (least_of a b) (least_of c d) n (subst (IsBefore n) is before)
 
-    go : (k : ℕ) → n % 4 ≡ k → k < 4 → P n x
+    go : (k : ℕ) → n % 4 ≡ k → k < 4 → Q x
     go zero e lt = qa n x e le (before_least a b n parts.0).0 at
     go (suc zero) e lt = qb n x e le (before_least a b n parts.0).1 at
     go (suc (suc zero)) e lt = qc n x e le (before_least c d n parts.1).0 at
     go (suc (suc (suc zero))) e lt = qd n x e le (before_least c d n parts.1).1 at
     go (suc (suc (suc (suc k)))) e lt = absurd (omega (arith, lt))
-
-pub all_kinds : {X : Type 0} (Q : X → Type 0) (t : Tables X) (from : ℕ) (a b c d answer : Option ℕ) → HaveTo Q t from a 0 → HaveTo Q t from b 1 → HaveTo Q t from c 2 → HaveTo Q t from d 3 → answer ≡ least_of (least_of a b) (least_of c d)
-    → (n : ℕ) (x : X) → from ≤ n → IsBefore n answer → lookup t n ≡ Some x → Q x
-all_kinds Q = by_kinds (λ n x. Q x)
 
 -- the parts of one type from an index on
 pub of_kind : {X : Type 0} (Q : X → Type 0) (ls : List (List X)) (k from first : ℕ) (d : List X) (found answer : Option ℕ) → length ls ≡ 4 → k < 4 → first ≡ (from + 3 - k) / 4
@@ -140,9 +131,6 @@ has_each {X} Q ls d0 d1 d2 d3 len q0 q1 q2 q3 n x at = go (n % 4) refl (omega ar
 -- what holds of each holds of the least
 pub four_have : (P : ℕ → Type 0) (a b c d : Option ℕ) → IfSome a P → IfSome b P → IfSome c P → IfSome d P → IfSome (least_of (least_of a b) (least_of c d)) P
 four_have P a b c d pa pb pc pd = least_has P (least_of a b) (least_of c d) (least_has P a b pa pb) (least_has P c d pc pd)
-
-pub small_four : (a b c d : Option ℕ) → IfSome a (λ n. n < 2 ^ 62) → IfSome b (λ n. n < 2 ^ 62) → IfSome c (λ n. n < 2 ^ 62) → IfSome d (λ n. n < 2 ^ 62) → IfSome (least_of (least_of a b) (least_of c d)) (λ n. n < 2 ^ 62)
-small_four = four_have (λ n. n < 2 ^ 62)
 
 -- a number that a stream can have is one's
 pub id_is : (id r : Option ℕ) (number : ℕ) → r ≡ Some number → IfSome r (λ n. n < 2 ^ 62) → IfSome id (λ m. (m ≡ number) × (number < 2 ^ 62)) → IfNone id (2 ^ 62 ≤ number) → id ≡ r

@@ -1,7 +1,10 @@
 -- Which packets are told as they are newly acknowledged.
-use Rattle.std.proofs.Common.{◌≡◌, ℕ, zero, suc, ◌+◌, ◌^◌, ◌<◌, ◌≤◌, nat_eq, Bool, true, false, not, ◌&&◌, cond, List, [], ◌∷◌, ◌++◌, map, take, Option, None, Some, is_some, Result, Ok, Err, refl, sym, ap, ◌∙◌, subst, inl, inr, arith}
-use Rattle.std.specs.Prelude.{⊤, reverse, flat_map, slice_get}
-use Rattle.std.specs.List.{filter, FoldsTo}
+use Rattle.std.proofs.Common.{◌≡◌, ℕ, zero, suc, ◌+◌, ◌^◌, ◌<◌, ◌≤◌, nat_eq, Bool, true, false, not, ◌&&◌, cond, List, [], ◌∷◌, map, take, Option, None, Some, is_some, Result, Ok, Err, refl, sym, ap, ◌∙◌, subst, inl, inr, arith}
+use Rattle.qs_send.specs.declared.piece.Piece.TheVariants.{Told}
+use Rattle.qs_send.specs.declared.piece.Item.TheVariants.{MaxData}
+use Rattle.std.proofs.lemmas.List.Elements.{All-nil, All-append, All-map, All-from_get_or, All-tail, All-head, All-take}
+use Rattle.std.specs.Prelude.{reverse, flat_map, slice_get}
+use Rattle.std.specs.List.{filter, FoldsTo, All}
 use Rattle.std.specs.FinMap as fmap
 use Rattle.std.specs.Option.{IfSome}
 use Rattle.std.proofs.lemmas.Bool.{both_ways, cases_eq}
@@ -164,38 +167,25 @@ told_named R p ranges o mid new s t begins tells same = λ falls.
     (subst (λ ks. FoldsTo R s (gone_from mid.outstanding ks) t) (begins_named o.outstanding p ranges begins falls) (tells o.outstanding (subst (λ (x : Passing). Falls x) (sym begins) falls) (λ k lt. refl)))
 
 abbrev AllLate : List AckedPiece → Type 0
-AllLate [] = ⊤
-AllLate (a ∷ ps) = (a.late ≡ true) × AllLate ps
-
-late_append : (ps qs : List AckedPiece) → AllLate ps → AllLate qs → AllLate (ps ++ qs)
-late_append [] qs all more = more
-late_append (p ∷ ps) qs all more = (all.0, late_append ps qs all.1 more)
-
-late_take : (m : ℕ) (ps : List AckedPiece) → AllLate ps → AllLate (take m ps)
-late_take (suc m) (p ∷ ps) all = (all.0, late_take m ps all.1)
-late_take _ _ _ = tt
-
-late_map : (k : ℕ) (ps : List Piece) → AllLate (map (acked_at true k) ps)
-late_map k [] = tt
-late_map k (p ∷ ps) = (refl, late_map k ps)
+AllLate ps = All (λ a. a.late ≡ true) ps
 
 late_flat : (m : Records) (ks : List ℕ) → AllLate (flat_map (pieces_of true m) ks)
-late_flat m [] = tt
-late_flat m (k ∷ ks) = late_append (pieces_of true m k) (flat_map (pieces_of true m) ks) (go (fmap.get m k)) (late_flat m ks)
+late_flat m [] = All-nil (λ a. a.late ≡ true)
+late_flat m (k ∷ ks) = All-append (λ a. a.late ≡ true) (pieces_of true m k) (flat_map (pieces_of true m) ks) (go (fmap.get m k)) (late_flat m ks)
   where
     go : (x : Option (List Piece)) → AllLate (elim x [ None ↦ [] | Some ps ↦ map (acked_at true k) ps ])
-    go None = tt
-    go (Some ps) = late_map k ps
+    go None = All-nil (λ a. a.late ≡ true)
+    go (Some ps) = All-map (λ a. a.late ≡ true) (acked_at true k) ps (All-from_get_or (λ p. true ≡ true) ps (Told (MaxData 0)) (λ i lt. refl))
 
 late_out : (ps : List AckedPiece) (o : Outgoing) → AllLate ps → (acks_out ps o).outstanding ≡ o.outstanding
 unfolding acks_out
 late_out [] o all = refl
 late_out (a ∷ ps) o all =
-    late_out ps (first_acked_out a o) all.1 ∙ outstanding_acked a.late a.number a.piece o ∙ ap (λ b. cond b o.outstanding (without_first o.outstanding a.number (fmap.get o.outstanding a.number))) all.0
+    late_out ps (first_acked_out a o) (All-tail (λ a. a.late ≡ true) a ps all) ∙ outstanding_acked a.late a.number a.piece o ∙ ap (λ b. cond b o.outstanding (without_first o.outstanding a.number (fmap.get o.outstanding a.number))) (All-head (λ a. a.late ≡ true) a ps all)
 
 late_by : (ps : List AckedPiece) (o new : Outgoing) (result : Result (Unit {0}) NoMemory) → AllLate ps → AcksBy ps o result new → new.outstanding ≡ o.outstanding
 late_by ps o new (Ok done) all is = ap (λ (x : Outgoing). x.outstanding) is ∙ late_out ps o all
-late_by ps o new (Err refused) all (m, is, stops) = ap (λ (x : Outgoing). x.outstanding) is ∙ late_out (take m ps) o (late_take m ps all)
+late_by ps o new (Err refused) all (m, is, stops) = ap (λ (x : Outgoing). x.outstanding) is ∙ late_out (take m ps) o (All-take (λ a. a.late ≡ true) m ps all)
 
 -- the second pass changes no outstanding packet
 pub told_both : {S : Type 0} (R : S → ℕ → S → Type 0) (ranges : List (ℕ × ℕ)) (o mid new : Outgoing) (result : Result (Unit {0}) NoMemory) (s t : S) → TellsNamed R ranges o mid s t → AcksNamed true ranges mid result new → TellsNamed R ranges o new s t

@@ -1,7 +1,7 @@
 -- The values that are kept of the connection's own items tell exactly which are outstanding, as limits and records change.
 use Rattle.std.proofs.Common.{if◌then◌else◌, ◌≡◌, ◌≢◌, ◌≤◌, ◌<◌, ℕ, zero, suc, ◌↔◌, IsTrue, Bool, true, false, ◌⊎◌, Option, None, Some, length, replicate, slice_set, refl, sym, ap, ◌∙◌, subst, arith, inl, inr, nat_lt, nat_cmp}
 use Rattle.std.specs.FinMap as fmap
-use Rattle.std.proofs.lemmas.Bool.{true≢false, cases_eq, eqb-true, eqb-false}
+use Rattle.std.proofs.lemmas.Bool.{true≢false, cond_both, cases_eq, eqb-true, eqb-false}
 use Rattle.std.proofs.lemmas.Bool.Decides.{nat_tests}
 use Rattle.std.proofs.lemmas.List.{length-set, get_or-set_same, get_or-set_other, get_or-replicate}
 use Rattle.std.proofs.lemmas.Option.{none-some, same_Some}
@@ -39,77 +39,54 @@ item_at (suc (suc (suc (suc (suc k))))) v = StreamsBlocked Uni v
 
 at_own : (i : Item) → own_place i < 6 → item_at (own_place i) (own_value i) ≡ i
 at_own (MaxData m) own = refl
-at_own (MaxStreamData n m) own = absurd (omega (arith, own))
 at_own (MaxStreams Bidi m) own = refl
 at_own (MaxStreams Uni m) own = refl
-at_own (ResetStream n code size) own = absurd (omega (arith, own))
-at_own (StopSending n code) own = absurd (omega (arith, own))
 at_own (DataBlocked m) own = refl
-at_own (StreamDataBlocked n m) own = absurd (omega (arith, own))
 at_own (StreamsBlocked Bidi m) own = refl
 at_own (StreamsBlocked Uni m) own = refl
+at_own _ own = absurd (omega (arith, own))
 
 own_same : (i j : Item) → own_place i < 6 → own_place j < 6 → own_place i ≡ own_place j → own_value i ≡ own_value j → i ≡ j
 own_same i j own other place value = sym (at_own i own) ∙ ap (λ k. item_at k (own_value i)) place ∙ ap (item_at (own_place j)) value ∙ at_own j other
 
 -- an item of a stream
 pub own_none : (i : Item) → ((n m : ℕ) → i ≡ MaxStreamData n m → ⊥) → ((n code size : ℕ) → i ≡ ResetStream n code size → ⊥) → ((n code : ℕ) → i ≡ StopSending n code → ⊥) → ((n m : ℕ) → i ≡ StreamDataBlocked n m → ⊥) → own_place i < 6
-own_none (MaxData m) a b d f = omega arith
 own_none (MaxStreamData n m) a b d f = absurd (a n m refl)
-own_none (MaxStreams Bidi m) a b d f = omega arith
-own_none (MaxStreams Uni m) a b d f = omega arith
 own_none (ResetStream n code size) a b d f = absurd (b n code size refl)
 own_none (StopSending n code) a b d f = absurd (d n code refl)
-own_none (DataBlocked m) a b d f = omega arith
 own_none (StreamDataBlocked n m) a b d f = absurd (f n m refl)
+own_none (MaxStreams Bidi m) a b d f = omega arith
 own_none (StreamsBlocked Bidi m) a b d f = omega arith
-own_none (StreamsBlocked Uni m) a b d f = omega arith
+own_none _ a b d f = omega arith
 
 -- a current one has the present value
 pub own_present : (l : Limits) (recvs : Tables RecvLane) (o : Outgoing) (e : End) (i : Item) → own_place i < 6 → IsCurrent (end_by l recvs o e) i → own_value i ≡ present_at l (own_place i)
 own_present l recvs o e (MaxData m) own c = c.0
-own_present l recvs o e (MaxStreamData n m) own c = absurd (omega (arith, own))
 own_present l recvs o e (MaxStreams Bidi m) own c = c.0
 own_present l recvs o e (MaxStreams Uni m) own c = c.0
-own_present l recvs o e (ResetStream n code size) own c = absurd (omega (arith, own))
-own_present l recvs o e (StopSending n code) own c = absurd (omega (arith, own))
 own_present l recvs o e (DataBlocked m) own c = c.0
-own_present l recvs o e (StreamDataBlocked n m) own c = absurd (omega (arith, own))
 own_present l recvs o e (StreamsBlocked Bidi m) own c = c.1
 own_present l recvs o e (StreamsBlocked Uni m) own c = c.1
+own_present l recvs o e _ own c = absurd (omega (arith, own))
 
 -- What is kept
 
-value_is : (o : Option ℕ) (v : ℕ) → is_value o v ≡ true → o ≡ Some v
-value_is None v e = absurd (true≢false (sym e))
-value_is (Some k) v e = ap Some (eqb-true k v e)
-
-value_not : (o : Option ℕ) (v : ℕ) → is_value o v ≡ false → o ≡ Some v → ⊥
-value_not None v e is = none-some v is
-value_not (Some k) v e is = eqb-false k v e (same_Some k v is)
+value_is : (o : Option ℕ) (v : ℕ) → (is_value o v ≡ true → o ≡ Some v) × (is_value o v ≡ false → o ≡ Some v → ⊥)
+value_is None v = (λ e. absurd (true≢false (sym e)), λ e is. none-some v is)
+value_is (Some k) v = (λ e. ap Some (eqb-true k v e), λ e is. eqb-false k v e (same_Some k v is))
 
 own_yes : (i : Item) (xs : Kept) → has_own i xs ≡ true → (own_place i < 6) × (kept_at xs (own_place i) ≡ Some (own_value i))
-own_yes i xs = go (nat_lt (own_place i) 6) refl
-  where
-    go : (b : Bool) → nat_lt (own_place i) 6 ≡ b → (if b then is_value (kept_at xs (own_place i)) (own_value i) else false) ≡ true → (own_place i < 6) × (kept_at xs (own_place i) ≡ Some (own_value i))
-    go true e has = (grind (arith, nat_tests, e), value_is _ _ has)
-    go false e has = absurd (true≢false (sym has))
+own_yes i xs =
+    cond_both (nat_lt (own_place i) 6) (is_value (kept_at xs (own_place i)) (own_value i)) false (λ b. b ≡ true → (own_place i < 6) × (kept_at xs (own_place i) ≡ Some (own_value i)))
+    (λ below has. (grind (arith, nat_tests, below), (value_is (kept_at xs (own_place i)) (own_value i)).0 has)) (λ past has. absurd (true≢false (sym has)))
 
 own_no : (i : Item) (xs : Kept) → own_place i < 6 → has_own i xs ≡ false → kept_at xs (own_place i) ≡ Some (own_value i) → ⊥
-own_no i xs own = go (nat_lt (own_place i) 6) refl
-  where
-    go : (b : Bool) → nat_lt (own_place i) 6 ≡ b → (if b then is_value (kept_at xs (own_place i)) (own_value i) else false) ≡ false → kept_at xs (own_place i) ≡ Some (own_value i) → ⊥
-    go true e has is = value_not _ _ has is
-    go false e has is = grind (arith, nat_tests, e, own)
+own_no i xs own =
+    cond_both (nat_lt (own_place i) 6) (is_value (kept_at xs (own_place i)) (own_value i)) false (λ b. b ≡ false → kept_at xs (own_place i) ≡ Some (own_value i) → ⊥)
+    (λ below has. (value_is (kept_at xs (own_place i)) (own_value i)).1 has) (λ past has is. grind (arith, nat_tests, past, own))
 
 set_here : (xs : Kept) (i : ℕ) (x : Option ℕ) → length xs ≡ 6 → i < 6 → kept_at (slice_set xs i x) i ≡ x
 set_here xs i x len lt = get_or-set_same xs i x None (omega (arith, len, lt))
-
-below_stays : (v p q : ℕ) → v ≤ p → p ≤ q → v ≤ q
-below_stays v p q a b = omega (arith, a, b)
-
-same_below : (v p q : ℕ) → v ≤ p → p ≤ q → v ≡ q → v ≡ p
-same_below v p q a b is = omega (arith, a, b, is)
 
 presents_rise : (t now : Limits) → t.granted ≤ now.granted → t.granted_streams.bidi ≤ now.granted_streams.bidi → t.granted_streams.uni ≤ now.granted_streams.uni → t.known_data ≤ now.known_data → t.known_streams.bidi ≤ now.known_streams.bidi → t.known_streams.uni ≤ now.known_streams.uni
     → (k : ℕ) → k < 6 → present_at t k ≤ present_at now k
@@ -126,17 +103,11 @@ module _ (t : Limits) (m : Records) (xs : Kept) (h : AreOwn t m xs) where
   pub own_risen : (now : Limits) → t.granted ≤ now.granted → t.granted_streams.bidi ≤ now.granted_streams.bidi → t.granted_streams.uni ≤ now.granted_streams.uni → t.known_data ≤ now.known_data → t.known_streams.bidi ≤ now.known_streams.bidi → t.known_streams.uni ≤ now.known_streams.uni → AreOwn now m xs
   own_risen now a b d f g e = record { places = h.places; each = one }
     where
-      up : (k : ℕ) → k < 6 → present_at t k ≤ present_at now k
-      up = presents_rise t now a b d f g e
-
       one : (i : Item) → own_place i < 6 → IsOwn now m xs i
       one i own =
           let was = h.each i own in
-          record {
-            told = was.told;
-            below = λ out. below_stays _ _ _ (was.below out) (up (own_place i) own);
-            found = λ out is. was.found out (same_below _ _ _ (was.below out) (up (own_place i) own) is);
-          }
+          let up = presents_rise t now a b d f g e (own_place i) own in
+          record { told = was.told; below = λ out. omega (arith, was.below out, up); found = λ out is. was.found out (omega (arith, was.below out, up, is)) }
 
   -- Pieces come
 
@@ -267,10 +238,6 @@ own_acked late k p t o new xs ys h apart first is are = rw (are, is, outstanding
 
 pub own_lost : (k : ℕ) (p : Piece) (t : Limits) (o new : Outgoing) (xs : Kept) → AreOwn t o.outstanding xs → AreApartIn o.outstanding → first_piece (fmap.get o.outstanding k) ≡ Some p → new ≡ first_lost_out k p o → AreOwn t new.outstanding (own_left p xs)
 own_lost k p t o new xs h apart first is = rw is (own_gone t o.outstanding xs h (without_first o.outstanding k (fmap.get o.outstanding k)) k p (shortened_is o.outstanding k p first) apart)
-
--- a current item goes into a packet
-pub own_told : (l : Limits) (recvs : Tables RecvLane) (o : Outgoing) (e : End) (xs : Kept) → AreOwn l o.outstanding xs → (i : Item) → IsCurrent (end_by l recvs o e) i → AreOwn l (with_piece o.outstanding o.next (Told i)) (own_with i xs)
-own_told l recvs o e xs h i current = own_put l o.outstanding xs h o.next i (λ own. own_present l recvs o e i own current)
 
 -- what is kept tells whether a current item is covered
 module _ (l : Limits) (recvs : Tables RecvLane) (o : Outgoing) (e : End) (xs : Kept) (h : AreOwn l o.outstanding xs) (i : Item) (own : own_place i < 6) (r : Bool) where

@@ -91,16 +91,14 @@ sum_uncounted f xs n i was is s now there at before after same h =
 -- one that may do both is counted anew, where it may
 sum_counted : (f : Sending → ℕ) (m : Moves) (xs : List Sending) (n i was is : ℕ) (s now : Sending) → i < length xs → s ≡ get_or xs i s → was ≡ counted m (f s) → is ≡ counted m (f now) → is ≤ MAX_VARINT → (counted m 1 ≡ 0 → f now ≡ f s) → IsSumOf f xs n
     → IsSumOf f (set xs i now) (n - was + is)
-sum_counted f moves.Sent xs n i was is s now there at before after small same h = sum_uncounted f xs n i was is s now there at before after (same refl) h
-sum_counted f moves.End xs n i was is s now there at before after small same h = sum_uncounted f xs n i was is s now there at before after (same refl) h
 sum_counted f moves.Room xs n i was is s now there at before after small same h = sum_moved f xs n i was is s now there at before after small h
 sum_counted f moves.All xs n i was is s now there at before after small same h = sum_moved f xs n i was is s now there at before after small h
+sum_counted f _ xs n i was is s now there at before after small same h = sum_uncounted f xs n i was is s now there at before after (same refl) h
 
 uncounted : (m : Moves) (s now : Sending) → Stays m s now → counted m 1 ≡ 0 → (promised_of now ≡ promised_of s) × (kept_of now ≡ kept_of s)
-uncounted moves.Sent s now stays none = (stays.promised, stays.kept)
-uncounted moves.End s now stays none = (stays.promised, stays.kept)
 uncounted moves.Room s now stays none = absurd (omega (arith, none))
 uncounted moves.All s now stays none = absurd (omega (arith, none))
+uncounted _ s now stays none = (stays.promised, stays.kept)
 
 pub sums_counted : (m : Moves) (xs : List Sending) (n k i before after had has : ℕ) (s now : Sending) → i < length xs → s ≡ get_or xs i s → Stays m s now → before ≡ counted m (promised_of s) → after ≡ counted m (promised_of now) → after ≤ MAX_VARINT → had ≡ counted m (kept_of s) → has ≡ counted m (kept_of now)
     → has ≤ MAX_VARINT → AreSums xs n k → AreSums (set xs i now) (n - before + after) (k - had + has)

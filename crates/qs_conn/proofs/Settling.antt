@@ -1,6 +1,9 @@
 -- A lane whose limit is the next one already.
 use Rattle.std.proofs.Common.{◌≡◌, ◌≢◌, ℕ, zero, suc, ◌+◌, ◌<◌, ◌≤◌, ◌⊎◌, inl, inr, Bool, true, false, ◌&&◌, ◌||◌, List, [], ◌∷◌, ◌++◌, length, map, take, replicate, Option, Some, None, is_some, refl, ap, sym, ◌∙◌, arith, subst, max, min, nat_le, nat_lt, cond, eqb, get_or}
-use Rattle.std.proofs.lemmas.Option.{none-some, same_Some, slice_get_read, slice_get_within}
+use Rattle.qs_conn.proofs.Untolds.{of_mapped}
+use Rattle.qs_conn.proofs.Words.{padded}
+use Rattle.std.proofs.lemmas.List.{get_or-take}
+use Rattle.std.proofs.lemmas.Option.{none-some, same_Some, slice_get_read, slice_get_within, slice_get-map}
 use Rattle.std.proofs.lemmas.Bool.Decides.{nat_tests}
 use Rattle.std.proofs.lemmas.Bool.{cases_eq, true≢false}
 use Rattle.std.proofs.Math.ListN.{set, length-set}
@@ -9,10 +12,9 @@ use Rattle.std.specs.List.{slice_get}
 use Rattle.qs_ranges.specs.Numbers.{MAX_VARINT}
 use Rattle.qs_recv.specs.Lane.{MAX_WINDOW, RecvLane, new_lane, step, raise, taken, take_stream, next_limit, limit_with, set_window}
 use Rattle.qs_recv.specs.declared.credit.Share.{Share}
-use Rattle.qs_recv.specs.declared.credit.Share.TheVariants.{Half, Quarter, Eighth, Sixteenth}
+use Rattle.qs_recv.specs.declared.credit.Share.TheVariants.{Half}
 use Rattle.qs_conn.specs.declared.touches.Touches.{Touches}
 use Rattle.qs_machine.proofs.Again.{next_twice}
-use Rattle.qs_conn.specs.Marks.{is_marked}
 use Rattle.qs_conn.specs.declared.touches.Touched.{Touched}
 use Rattle.qs_conn.specs.declared.touches.Touched.TheVariants.{Several}
 use Rattle.qs_conn.specs.RecvEdits.{IsCalm}
@@ -47,9 +49,7 @@ stream_settled l offset bytes false took was = ap (λ k. cond (is_some l.final_s
 -- by how much a limit moves falls by no more than the window
 steps_near : (w w' : ℕ) (share : Share) → w' ≤ w → step share w + w' ≤ step share w' + w
 steps_near w w' Half le = omega (arith, le)
-steps_near w w' Quarter le = omega (arith, le)
-steps_near w w' Eighth le = omega (arith, le)
-steps_near w w' Sixteenth le = omega (arith, le)
+steps_near w w' _ le = omega (arith, le)
 
 next_under : (l t w w' : ℕ) (share : Share) → next_limit l t w share ≡ l → next_limit (limit_with w l t w') t w' share ≡ limit_with w l t w'
 next_under l t w w' share was = go (nat_lt w w') refl
@@ -124,25 +124,15 @@ get_seam [] ys j l at = inr (j, at)
 get_seam (x ∷ xs) ys zero l at = inl at
 get_seam (x ∷ xs) ys (suc j) l at = get_seam xs ys j l at
 
-get_begun : (w : ℕ) (share : Share) (ks : List ℕ) (k : ℕ) (l : RecvLane) → slice_get (map (λ (i : ℕ). new_lane w share) ks) k ≡ Some l → new_lane w share ≡ l
-get_begun w share [] k l at = absurd (none-some l at)
-get_begun w share (i ∷ ks) zero l at = same_Some (new_lane w share) l at
-get_begun w share (i ∷ ks) (suc k) l at = get_begun w share ks k l at
-
-marked_more : (ms : List Bool) (n i : ℕ) → is_marked ms i ≡ is_marked (ms ++ replicate n false) i
-marked_more [] (suc n) (suc i) = marked_more [] n i
-marked_more (m ∷ ms) n (suc i) = marked_more ms n i
-marked_more _ _ _ = refl
-
 among_more : (k : Touched) (ms : List Bool) (n i : ℕ) → is_among k ms i ≡ is_among k (ms ++ replicate n false) i
-among_more Several ms n i = marked_more ms n i
+among_more Several ms n i = sym (padded ms n i false)
 among_more _ _ _ _ = refl
 
 pub are_opened : (t new : Touches) (xs : List RecvLane) (w n : ℕ) (share : Share) (ks : List ℕ) → 1 ≤ w → w ≤ MAX_WINDOW → new.lanes ≡ t.lanes → new.marks ≡ t.marks ++ replicate n false → AreSettled t xs → AreSettled new (xs ++ map (λ (i : ℕ). new_lane w share) ks)
 are_opened t new xs w n share ks some small lanes marks each j l there free =
     elim (get_seam xs _ j l there) [
       | inl before ↦ each j l before (among_more t.lanes t.marks n j ∙ ap (λ ms. is_among t.lanes ms j) (sym marks) ∙ ap (λ k. is_among k new.marks j) (sym lanes) ∙ free)
-      | inr (k, begun) ↦ subst IsSettled (get_begun w share ks k l begun) (new_settled w share some small)
+      | inr (k, begun) ↦ of_mapped (λ (i : ℕ). new_lane w share) (slice_get ks k) IsSettled (λ i at. new_settled w share some small) l (sym (slice_get-map (λ (i : ℕ). new_lane w share) ks k) ∙ begun)
     ]
 
 -- lanes are taken away
@@ -152,13 +142,8 @@ get_taken (suc n) (x ∷ xs) zero l at = (at, omega arith)
 get_taken (suc n) (x ∷ xs) (suc j) l at = let (there, lt) = get_taken n xs j l at in (there, omega (arith, lt))
 get_taken _ _ _ l at = absurd (none-some l at)
 
-marked_taken : (n : ℕ) (ms : List Bool) (i : ℕ) → i < n → is_marked ms i ≡ is_marked (take n ms) i
-marked_taken zero ms i lt = absurd (omega (arith, lt))
-marked_taken (suc n) (m ∷ ms) (suc i) lt = marked_taken n ms i (omega (arith, lt))
-marked_taken _ _ _ _ = refl
-
 among_taken : (k : Touched) (n : ℕ) (ms : List Bool) (i : ℕ) → i < n → is_among k ms i ≡ is_among k (take n ms) i
-among_taken Several n ms i lt = marked_taken n ms i lt
+among_taken Several n ms i lt = sym (get_or-take n ms i false lt)
 among_taken _ _ _ _ _ = refl
 
 pub are_taken : (t new : Touches) (n : ℕ) (xs : List RecvLane) → new.lanes ≡ t.lanes → new.marks ≡ take n t.marks → AreSettled t xs → AreSettled new (take n xs)
@@ -174,11 +159,4 @@ touched_back t now n k lanes marks len =
 
 -- no lane has a limit to be raised once all were
 pub still_settled : (xs : List RecvLane) (t : Touches) → AreSettled t (map raise xs)
-still_settled [] t i l at free = absurd (none-some l at)
-still_settled (x ∷ xs) t zero l at free = subst IsSettled (same_Some (raise x) l at) (raised_twice x)
-still_settled (x ∷ xs) t (suc i) l at free = rest xs i at
-  where
-    rest : (ys : List RecvLane) (j : ℕ) → slice_get (map raise ys) j ≡ Some l → IsSettled l
-    rest [] j there = absurd (none-some l there)
-    rest (y ∷ ys) zero there = subst IsSettled (same_Some (raise y) l there) (raised_twice y)
-    rest (y ∷ ys) (suc j) there = rest ys j there
+still_settled xs t i l at free = of_mapped raise (slice_get xs i) IsSettled (λ x there. raised_twice x) l (sym (slice_get-map raise xs i) ∙ at)

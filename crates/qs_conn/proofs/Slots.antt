@@ -1,5 +1,6 @@
 -- The current item of each slot.
 use Rattle.std.proofs.Common.{◌≡◌, ℕ, ◌<◌, ◌≤◌, Bool, true, false, refl, sym, ap, ◌∙◌, subst, arith, Option, None, Some, is_some, cond}
+use Rattle.qs_conn.proofs.Openings.{none_is}
 use Rattle.std.proofs.lemmas.Option.{same_Some, none-some}
 use Rattle.qs_wire.specs.declared.stream_id.Dir.{Dir}
 use Rattle.qs_recv.specs.Lane.{RecvLane, is_whole}
@@ -55,13 +56,13 @@ max_streams_there e d m is lt = ((is, lt), refl, of_slot (λ j. IsCurrent e j �
 pub max_streams_none : (e : End) (d : Dir) → granted_streams e d ≤ first_grant e.settings d → IsCurrentIn e (slots.MaxStreams d) None
 max_streams_none e d le = of_slot (λ j. IsCurrent e j → ⊥) (slots.MaxStreams d) (λ k c. omega (arith, c.0, c.1, le))
 
+not_none : (b : Bool) (o : Option ℕ) (m : ℕ) → cond b None o ≡ Some m → (b ≡ false) × (o ≡ Some m)
+not_none true o m is = absurd (none-some m is)
+not_none false o m is = (refl, is)
+
 limit_some : (o : Option RecvLane) (m : ℕ) → limit_to_tell o ≡ Some m → (l : RecvLane) × (o ≡ Some l) × (m ≡ l.limit) × (l.final_size ≡ None)
 limit_some None m is = absurd (none-some m is)
-limit_some (Some l) m is = go l.final_size refl is
-  where
-    go : (f : Option ℕ) → l.final_size ≡ f → cond (is_some f) None (Some l.limit) ≡ Some m → (k : RecvLane) × (Some l ≡ Some k) × (m ≡ k.limit) × (k.final_size ≡ None)
-    go None none at = (l, refl, sym (same_Some l.limit m at), none)
-    go (Some s) there at = absurd (none-some m at)
+limit_some (Some l) m is = let (unsized, at) = not_none (is_some l.final_size) (Some l.limit) m is in (l, refl, sym (same_Some l.limit m at), none_is l.final_size unsized)
 
 limit_of : (o : Option RecvLane) (l : RecvLane) → o ≡ Some l → l.final_size ≡ None → limit_to_tell o ≡ Some l.limit
 limit_of o l is none = ap limit_to_tell is ∙ ap (λ f. cond (is_some f) None (Some l.limit)) none
@@ -96,12 +97,10 @@ reset_none e n is = of_slot (λ j. IsCurrent e j → ⊥) (slots.ResetStream n) 
 
 stop_some : (o : Option RecvLane) (m : ℕ) → stop_to_tell o ≡ Some m → (l : RecvLane) × (o ≡ Some l) × (l.stop_code ≡ Some m) × (l.reset_code ≡ None) × (is_whole l ≡ false)
 stop_some None m is = absurd (none-some m is)
-stop_some (Some l) m is = go l.reset_code (is_whole l) refl refl is
-  where
-    go : (r : Option ℕ) (w : Bool) → l.reset_code ≡ r → is_whole l ≡ w → cond (is_some r) None (cond w None l.stop_code) ≡ Some m → (k : RecvLane) × (Some l ≡ Some k) × (k.stop_code ≡ Some m) × (k.reset_code ≡ None) × (is_whole k ≡ false)
-    go (Some c) w a b at = absurd (none-some m at)
-    go None true a b at = absurd (none-some m at)
-    go None false a b at = (l, refl, at, a, b)
+stop_some (Some l) m is =
+    let (goes, rest) = not_none (is_some l.reset_code) (cond (is_whole l) None l.stop_code) m is in
+    let (part, at) = not_none (is_whole l) l.stop_code m rest in
+    (l, refl, at, none_is l.reset_code goes, part)
 
 pub stop_of : (o : Option RecvLane) (l : RecvLane) (m : ℕ) → o ≡ Some l → l.stop_code ≡ Some m → l.reset_code ≡ None → is_whole l ≡ false → stop_to_tell o ≡ Some m
 stop_of o l m is code reset whole = ap stop_to_tell is ∙ ap (λ r. cond (is_some r) None (cond (is_whole l) None l.stop_code)) reset ∙ ap (λ w. cond w None l.stop_code) whole ∙ code

@@ -1,9 +1,7 @@
 -- Sending halves that have something for a packet, or for their owner.
 use Rattle.std.proofs.Common.{◌≡◌, ℕ, ◌≤◌, ◌||◌, Bool, true, false, arith, Option, Some, None, is_some, option_map, refl, sym, ap, ◌∙◌, subst, inl, inr}
-use Rattle.std.specs.Prelude.{⊤}
 use Rattle.std.proofs.lemmas.Bool.{true≢false}
 use Rattle.std.proofs.lemmas.Option.{none-some, same_Some}
-use Rattle.std.specs.FinSet as set
 use Rattle.qs_send.specs.Lane.{SendLane, Sending}
 use Rattle.qs_send.specs.Sound.{IsLawful}
 use Rattle.qs_machine.specs.Tables.{Tables, lookup}
@@ -48,22 +46,23 @@ half_of_lane t n l at = go (lookup t n) refl (sym (lookup_lanes t n) ∙ at)
     go None e is = absurd (none-some l is)
     go (Some s) e is = (s, e, same_Some s.lane l is)
 
+-- an answer about halves is one about their lanes
+pub lanes_least : (P : ℕ → Sending → Type 0) (Q : ℕ → SendLane → Type 0) (v o : Outgoing) (t : Tables Sending) (from : ℕ) (r : Option ℕ) → v ≡ o → lanes_of t ≡ v.sends → ((n : ℕ) (s : Sending) → r ≡ Some n → lookup t n ≡ Some s → P n s → Q n s.lane)
+    → ((n : ℕ) (s : Sending) → lookup t n ≡ Some s → Q n s.lane → P n s) → IsLeast (λ n. IsHeld (P n) t n) from r → IsLeast (λ n. IsHeld (Q n) o.sends n) from r
+lanes_least P Q v o t from r same lanes to back h = subst (λ (x : Outgoing). IsLeast (λ n. IsHeld (Q n) x.sends n) from r) same (record { found = found; least = least })
+  where
+    found : (n : ℕ) → r ≡ Some n → (from ≤ n) × IsHeld (Q n) v.sends n
+    found n is = let (ge, (s, at, p)) = h.found n is in (ge, (s.lane, ap (λ x. lookup x n) (sym lanes) ∙ lane_there t n s at, to n s is at p))
+
+    least : (n : ℕ) → from ≤ n → IsHeld (Q n) v.sends n → (m : ℕ) × (r ≡ Some m) × (m ≤ n)
+    least n ge (l, at, q) = let (s, there, is) = half_of_lane t n l (ap (λ x. lookup x n) lanes ∙ at) in h.least n ge (s, there, back n s there (subst (Q n) (sym is) q))
+
 -- an answer about halves is one about what of their streams is due
 pub due_least : (v o : Outgoing) (t : Tables Sending) (from : ℕ) (r : Option ℕ) → v ≡ o → lanes_of t ≡ v.sends → ((n : ℕ) (s : Sending) → lookup t n ≡ Some s → IsTied v.outstanding n s) → ((n : ℕ) (s : Sending) → r ≡ Some n → lookup t n ≡ Some s → IsLawful s) → IsLeast (IsHeld (HasTask tasks.Bytes) t) from r
     → (e : End) → IsLeast (IsDueOf (with_outgoing o e)) from r
-due_least v o t from r same lanes tied lawful h e = subst (λ x. IsLeast (IsDueOf (with_outgoing x e)) from r) same (record { found = found; least = least })
-  where
-    found : (n : ℕ) → r ≡ Some n → (from ≤ n) × IsDueOf (with_outgoing v e) n
-    found n is =
-        let f = h.found n is in
-        let s = f.1.0 in
-        let at = f.1.1 in
-        (f.0, (s.lane, ap (λ x. lookup x n) (sym lanes) ∙ lane_there t n s at, packet_has (with_outgoing v e) n s (tied n s at) (lawful n s is at) f.1.2))
-
-    least : (n : ℕ) → from ≤ n → IsDueOf (with_outgoing v e) n → (m : ℕ) × (r ≡ Some m) × (m ≤ n)
-    least n ge (l, at, due) =
-        let (s, there, is) = half_of_lane t n l (ap (λ x. lookup x n) lanes ∙ at) in
-        h.least n ge (s, there, has_packet (with_outgoing v e) n s (tied n s there) (subst (HasForPacket (with_outgoing v e) n) (sym is) due))
+due_least v o t from r same lanes tied lawful h e =
+    subst (λ x. IsLeast (IsDueOf (with_outgoing x e)) from r) same
+    (lanes_least (λ n. HasTask tasks.Bytes) (HasForPacket (with_outgoing v e)) v v t from r refl lanes (λ n s is at. packet_has (with_outgoing v e) n s (tied n s at) (lawful n s is at)) (λ n s at. has_packet (with_outgoing v e) n s (tied n s at)) h)
 
 -- the half that was found
 pub lawful_found : (t : Tables Sending) (m : ℕ) (x : Sending) → lookup t m ≡ Some x → IsLawful x → (n : ℕ) (s : Sending) → Some m ≡ Some n → lookup t n ≡ Some s → IsLawful s
@@ -82,27 +81,6 @@ readable_least v old b at from r same is none begin h =
 pub sendable_least : (v old : End) (o : Outgoing) (b : Bool) (at from : ℕ) (r : Option ℕ) → v ≡ old → with_outgoing o v ≡ v → b ≡ is_some v.closed → b ≡ false → at ≡ from → ((e : End) → IsLeast (IsDueOf (with_outgoing o e)) at r) → IsLeast (IsSendable old) from r
 sendable_least v old o b at from r same out is none begin h =
     rw (← same, ← begin) (least_given (v.closed ≡ None) (IsDueOf v) at r (none_is v.closed (sym is ∙ none)) (subst (λ x. IsLeast (IsDueOf x) at r) out (h v)))
-
--- an answer about halves is one about their lanes
-pub lanes_with : (P : Sending → Type 0) (Q : SendLane → Type 0) (T : ℕ → Type 0) → ((s : Sending) → P s → Q s.lane) → ((s : Sending) → Q s.lane → P s) → (v o : Outgoing) (t : Tables Sending) (from : ℕ) (r : Option ℕ) → v ≡ o → lanes_of t ≡ v.sends
-    → IsLeast (λ n. IsHeld P t n × T n) from r → IsLeast (λ n. IsHeld Q o.sends n × T n) from r
-lanes_with P Q T to back v o t from r same lanes h = subst (λ (x : Outgoing). IsLeast (λ n. IsHeld Q x.sends n × T n) from r) same (record { found = found; least = least })
-  where
-    found : (n : ℕ) → r ≡ Some n → (from ≤ n) × (IsHeld Q v.sends n × T n)
-    found n is =
-        let f = h.found n is in
-        let s = f.1.0.0 in
-        (f.0, ((s.lane, ap (λ x. lookup x n) (sym lanes) ∙ lane_there t n s f.1.0.1, to s f.1.0.2), f.1.1))
-
-    least : (n : ℕ) → from ≤ n → IsHeld Q v.sends n × T n → (m : ℕ) × (r ≡ Some m) × (m ≤ n)
-    least n ge ((l, at, q), also) =
-        let (s, there, is) = half_of_lane t n l (ap (λ x. lookup x n) lanes ∙ at) in
-        h.least n ge ((s, there, back s (subst Q (sym is) q)), also)
-
-pub lanes_least : (P : Sending → Type 0) (Q : SendLane → Type 0) → ((s : Sending) → P s → Q s.lane) → ((s : Sending) → Q s.lane → P s) → (v o : Outgoing) (t : Tables Sending) (from : ℕ) (r : Option ℕ) → v ≡ o → lanes_of t ≡ v.sends → IsLeast (IsHeld P t) from r → IsLeast (IsHeld Q o.sends) from r
-lanes_least P Q to back v o t from r same lanes h =
-    let with_all = lanes_with P Q (λ n. ⊤) to back v o t from r same lanes (record { found = λ n is. (let f = h.found n is in (f.0, (f.1, tt))); least = λ n ge p. h.least n ge p.0 }) in
-    record { found = λ n is. (let f = with_all.found n is in (f.0, f.1.0)); least = λ n ge q. with_all.least n ge (q, tt) }
 
 pub writable_least : (v old : End) (b : Bool) (at from : ℕ) (r : Option ℕ) → v ≡ old → b ≡ is_some v.closed → b ≡ false → at ≡ from → IsLeast (IsHeld MayWrite v.sends) at r → IsLeast (IsWritable old) from r
 writable_least v old b at from r same is none begin h = rw (← same, ← begin) (least_given (v.closed ≡ None) (IsHeld MayWrite v.sends) at r (none_is v.closed (sym is ∙ none)) h)

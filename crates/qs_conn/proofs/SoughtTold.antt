@@ -1,6 +1,6 @@
 -- Searches for the least stream whose sending half has something, of those that an owner was told of or of those that it wasn't.
 use Rattle.std.proofs.Common.{◌≡◌, ℕ, ◌+◌, ◌-◌, ◌*◌, ◌/◌, ◌<◌, ◌&&◌, not, if◌then◌else◌, Bool, true, false, List, length, map, get_or, Option, None, Some, refl, sym, ap, ◌∙◌}
-use Rattle.std.proofs.lemmas.Bool.{both_ways, true≢false, and_right}
+use Rattle.std.proofs.lemmas.Bool.{both_ways, true≢false, and_right, and_parts, not-true}
 use Rattle.qs_send.specs.Lane.{SendLane, Sending}
 use Rattle.qs_machine.specs.Heard.{is_told}
 use Rattle.qs_machine.specs.News.{IsLeast, IsHeld}
@@ -16,18 +16,11 @@ use Rattle.qs_conn.proofs.Boths.{both_is, untold_is}
 use Rattle.qs_conn.proofs.Exact.{at_mark, mark_at}
 use Rattle.qs_conn.proofs.Least.{least_by, row_none, row_some}
 use Rattle.qs_conn.proofs.Marked.{clear_next}
-use Rattle.qs_conn.proofs.Sought.{lanes_with}
+use Rattle.qs_conn.proofs.Hearing.{least_as}
+use Rattle.qs_conn.proofs.Sought.{lanes_least}
 use Rattle.qs_conn.proofs.UntoldSearch.{next_self, told_of}
 
 -- Marks that are sought
-
-two_marks : (a b : Bool) → (a && b) ≡ true → (a ≡ true) × (b ≡ true)
-two_marks true b is = (refl, is)
-two_marks false b is = absurd (true≢false (sym is))
-
-not_true : (b : Bool) → not b ≡ true → b ≡ false
-not_true true is = absurd (true≢false (sym is))
-not_true false is = refl
 
 one_missing : (a b : Bool) → (a && b) ≡ false → b ≡ true → a ≡ false
 one_missing true b none is = absurd (both_ways b none is)
@@ -47,8 +40,8 @@ asked_told true ms ts from r is h = h
 asked_told false ms ts from r is h = absurd (true≢false is)
 
 pub sought_mark : (told : Bool) (ms ts : List Bool) (i : ℕ) → is_marked (if told then both ms ts else untold ms ts) i ≡ true → (is_marked ms i ≡ true) × (is_marked ts i ≡ told)
-sought_mark true ms ts i is = two_marks (is_marked ms i) (is_marked ts i) (sym (both_is ms ts i) ∙ is)
-sought_mark false ms ts i is = let h = two_marks (is_marked ms i) (not (is_marked ts i)) (sym (untold_is ms ts i) ∙ is) in (h.0, not_true (is_marked ts i) h.1)
+sought_mark true ms ts i is = and_parts (is_marked ms i) (is_marked ts i) (sym (both_is ms ts i) ∙ is)
+sought_mark false ms ts i is = let h = and_parts (is_marked ms i) (not (is_marked ts i)) (sym (untold_is ms ts i) ∙ is) in (h.0, not-true (is_marked ts i) h.1)
 
 not_marked : (told : Bool) (ms ts : List Bool) (i : ℕ) → is_marked (if told then both ms ts else untold ms ts) i ≡ false → is_marked ts i ≡ told → is_marked ms i ≡ false
 not_marked true ms ts i none is = one_missing (is_marked ms i) (is_marked ts i) (sym (both_is ms ts i) ∙ none) is
@@ -78,4 +71,7 @@ module _ (q : Search) (ls : List (List Sending)) (told : Tables Bool) (k from fi
 -- an answer about halves is one about their lanes
 pub lanes_sought : (q : Search) (Q : SendLane → Type 0) → ((s : Sending) → HasTask q.task s → Q s.lane) → ((s : Sending) → Q s.lane → HasTask q.task s) → (told : Tables Bool) (v o : Outgoing) (t : Tables Sending) (from : ℕ) (r : Option ℕ) → v ≡ o → lanes_of t ≡ v.sends
     → IsLeast (IsSought q t told) from r → IsLeast (λ n. IsHeld Q o.sends n × (is_told told n ≡ q.is_told)) from r
-lanes_sought q Q to back told = lanes_with (HasTask q.task) Q (λ n. is_told told n ≡ q.is_told) to back
+lanes_sought q Q to back told v o t from r same lanes h =
+    least_as (λ n. IsHeld (λ l. Q l × (is_told told n ≡ q.is_told)) o.sends n) (λ n. IsHeld Q o.sends n × (is_told told n ≡ q.is_told)) from r (λ n (l, at, (has, is)). ((l, at, has), is)) (λ n ((l, at, has), is). (l, at, (has, is)))
+    (lanes_least (λ n s. HasTask q.task s × (is_told told n ≡ q.is_told)) (λ n l. Q l × (is_told told n ≡ q.is_told)) v o t from r same lanes (λ n s is at p. (to s p.0, p.1)) (λ n s at p. (back s p.0, p.1))
+    (least_as (IsSought q t told) (λ n. IsHeld (λ s. HasTask q.task s × (is_told told n ≡ q.is_told)) t n) from r (λ n ((s, at, has), is). (s, at, (has, is))) (λ n (s, at, (has, is)). ((s, at, has), is)) h))

@@ -5,7 +5,7 @@ use Rattle.std.specs.List.{list_any, range_with_len, sum_by}
 use Rattle.std.specs.Ordering.{nat_cmp}
 use Rattle.std.specs.Prelude.{slice_set}
 use Rattle.std.proofs.Math.ListN.{set, length-set}
-use Rattle.std.proofs.lemmas.Bool.{both_ways, cases_lt, true≢false}
+use Rattle.std.proofs.lemmas.Bool.{both_ways, cases_lt, true≢false, and_parts, or_parts, false_from_ne_true}
 use Rattle.std.proofs.lemmas.Bool.Decides.{nat_tests}
 use Rattle.std.proofs.lemmas.List.{length-map, map-append, map-set, take-map, length-append, length-take}
 use Rattle.std.proofs.lemmas.List.FromFn.{length-map-range_with_len}
@@ -50,18 +50,10 @@ unfolding is_due_below
 below_due s n is = let (q, at, lt) = found_below (sets.contains s.due.offsets) 0 n is in (q, at, omega (arith, lt))
 
 pub not_below : (s : Sending) (n q : ℕ) → is_due_below s n ≡ false → q < n → sets.contains s.due.offsets q ≡ false
-not_below s n q none lt = go (sets.contains s.due.offsets q) refl
-  where
-    go : (b : Bool) → sets.contains s.due.offsets q ≡ b → b ≡ false
-    go true is = absurd (both_ways (is_due_below s n) none (due_below s n q lt is))
-    go false is = refl
+not_below s n q none lt = false_from_ne_true (sets.contains s.due.offsets q) (λ is. both_ways (is_due_below s n) none (due_below s n q lt is))
 
 pub nothing_below : (s : Sending) (n : ℕ) → ((q : ℕ) → q < n → sets.contains s.due.offsets q ≡ false) → is_due_below s n ≡ false
-nothing_below s n none = go (is_due_below s n) refl
-  where
-    go : (b : Bool) → is_due_below s n ≡ b → b ≡ false
-    go true is = let (q, at, lt) = below_due s n is in absurd (both_ways (sets.contains s.due.offsets q) (none q lt) at)
-    go false is = refl
+nothing_below s n none = false_from_ne_true (is_due_below s n) (λ is. (let (q, at, lt) = below_due s n is in both_ways (sets.contains s.due.offsets q) (none q lt) at))
 
 pub least_below : (s : Sending) (n m : ℕ) → IsLeastFrom s.due.offsets 0 m → is_due_below s n ≡ nat_lt m n
 least_below s n m is =
@@ -75,10 +67,6 @@ none_below s n none = nothing_below s n (λ q lt. none q (omega arith))
 
 -- What a half has not
 
-one_of : (a b : Bool) → (a || b) ≡ false → (a ≡ false) × (b ≡ false)
-one_of false b is = (refl, is)
-one_of true b is = absurd (true≢false is)
-
 no_end : (s : Sending) → may_end s ≡ false → s.lane.sent_end ≡ s.lane.written → s.due.fin ≡ false
 no_end s none whole = let same : (s.lane.sent_end == s.lane.written) ≡ true = grind (arith, nat_tests, whole) in go s.due.fin (ap (λ b. s.due.fin && b) (sym same) ∙ none)
   where
@@ -88,13 +76,13 @@ no_end s none whole = let same : (s.lane.sent_end == s.lane.written) ≡ true = 
 
 module _ (s : Sending) (none : has tasks.Bytes s ≡ false) where
   parts : (has_unsent s.lane ≡ false) × ((may_end s || is_due_below s s.lane.limit) ≡ false)
-  parts = one_of (has_unsent s.lane) (may_end s || is_due_below s s.lane.limit) none
+  parts = or_parts (has_unsent s.lane) (may_end s || is_due_below s s.lane.limit) none
 
   pub no_byte : (q : ℕ) → q < s.lane.limit → sets.contains s.due.offsets q ≡ false
-  no_byte q lt = not_below s s.lane.limit q (one_of (may_end s) (is_due_below s s.lane.limit) parts.1).1 lt
+  no_byte q lt = not_below s s.lane.limit q (or_parts (may_end s) (is_due_below s s.lane.limit) parts.1).1 lt
 
   pub no_fin : s.lane.sent_end ≡ s.lane.written → s.due.fin ≡ false
-  no_fin = no_end s (one_of (may_end s) (is_due_below s s.lane.limit) parts.1).0
+  no_fin = no_end s (or_parts (may_end s) (is_due_below s s.lane.limit) parts.1).0
 
   pub all_sent : s.lane.was_reset ≡ None → s.lane.sent_end < s.lane.limit → s.lane.written ≤ s.lane.sent_end
   all_sent alive below =
@@ -103,10 +91,10 @@ module _ (s : Sending) (none : has tasks.Bytes s ≡ false) where
 
 module _ (s : Sending) (none : has tasks.Again s ≡ false) where
   pub none_again : (q : ℕ) → q < s.lane.sent_end → sets.contains s.due.offsets q ≡ false
-  none_again q lt = not_below s s.lane.sent_end q (one_of (may_end s) (is_due_below s s.lane.sent_end) none).1 lt
+  none_again q lt = not_below s s.lane.sent_end q (or_parts (may_end s) (is_due_below s s.lane.sent_end) none).1 lt
 
   pub no_fin_again : s.lane.sent_end ≡ s.lane.written → s.due.fin ≡ false
-  no_fin_again = no_end s (one_of (may_end s) (is_due_below s s.lane.sent_end) none).0
+  no_fin_again = no_end s (or_parts (may_end s) (is_due_below s s.lane.sent_end) none).0
 
 -- where neither is
 pub quiet_again : (s : Sending) → ((q : ℕ) → q < s.lane.sent_end → sets.contains s.due.offsets q ≡ false) → (s.lane.sent_end ≡ s.lane.written → s.due.fin ≡ false) → has tasks.Again s ≡ false
@@ -119,18 +107,14 @@ quiet_again s bytes end = let none = nothing_below s s.lane.sent_end bytes in le
 
 -- What it has
 
-both_of : (a b : Bool) → (a && b) ≡ true → (a ≡ true) × (b ≡ true)
-both_of true b is = (refl, is)
-both_of false b is = absurd (true≢false (sym is))
-
 pub end_parts : (s : Sending) → may_end s ≡ true → (s.due.fin ≡ true) × (s.lane.sent_end ≡ s.lane.written)
-end_parts s is = let (due, whole) = both_of s.due.fin (s.lane.sent_end == s.lane.written) is in (due, grind (arith, nat_tests, whole))
+end_parts s is = let (due, whole) = and_parts s.due.fin (s.lane.sent_end == s.lane.written) is in (due, grind (arith, nat_tests, whole))
 
 pub parts_end : (s : Sending) → s.due.fin ≡ true → s.lane.sent_end ≡ s.lane.written → may_end s ≡ true
 parts_end s due whole = let same : (s.lane.sent_end == s.lane.written) ≡ true = grind (arith, nat_tests, whole) in grind (arith, due, same)
 
 pub unsent_below : (l : SendLane) → has_unsent l ≡ true → (is_some l.was_reset ≡ false) × (l.sent_end < min l.written l.limit)
-unsent_below l is = let (alive, below) = both_of (not (is_some l.was_reset)) (nat_lt l.sent_end (min l.written l.limit)) is in (grind (arith, alive), grind (arith, nat_tests, below))
+unsent_below l is = let (alive, below) = and_parts (not (is_some l.was_reset)) (nat_lt l.sent_end (min l.written l.limit)) is in (grind (arith, alive), grind (arith, nat_tests, below))
 
 -- Marks
 
@@ -175,8 +159,7 @@ begins_with tasks.Bytes id limit buffer =
 begins_with tasks.Again id limit buffer = none_below (new_sending id limit buffer) 0 (λ q le. sets.contains-empty nat_cmp q)
 begins_with tasks.Writable id limit buffer = begins_writable id limit buffer
 begins_with tasks.Funded id limit buffer = ap (λ b. b && nat_lt 0 limit) (begins_writable id limit buffer)
-begins_with tasks.Ended id limit buffer = refl
-begins_with tasks.Stopped id limit buffer = refl
+begins_with _ id limit buffer = refl
 
 begun_with : (t : Task) (kind limit buffer lo n : ℕ) → map (has t) (map (λ (i : ℕ). new_sending (i * 4 + kind) limit buffer) (range_with_len lo n)) ≡ replicate n (begins t limit buffer)
 begun_with t kind limit buffer lo zero = refl

@@ -1,5 +1,6 @@
 -- A reader is told of the end only where the half came to it, or was stopped.
-use Rattle.std.proofs.Common.{◌≡◌, ℕ, zero, suc, option_map, ◌/◌, ◌%◌, Bool, true, false, cond, ◌||◌, Option, None, Some, is_some, ◌⊎◌, inl, inr, refl, sym, ◌∙◌, subst, arith, slice_get}
+use Rattle.std.proofs.Common.{◌≡◌, ℕ, option_map, Bool, true, false, cond, ◌||◌, Option, None, Some, is_some, ◌⊎◌, inl, inr, refl, sym, ◌∙◌, subst, arith, ap}
+use Rattle.qs_machine.proofs.Ties.{nowhere}
 use Rattle.std.specs.FinSet as set
 use Rattle.std.proofs.lemmas.Bool.{both_ways, and_parts, or_left, or_right}
 use Rattle.std.proofs.lemmas.Bool.Decides.{nat_tests}
@@ -10,7 +11,7 @@ use Rattle.qs_recv.specs.Lawful.{IsLawful}
 use Rattle.qs_recv.specs.declared.half.Read.{Read}
 use Rattle.qs_recv.specs.declared.half.Read.TheVariants.{Bytes, End, Reset, Wait}
 use Rattle.qs_recv.specs.declared.credit.Share.{Share}
-use Rattle.qs_machine.specs.Tables.{Tables, table, lookup, updated, no_streams, open_to, each}
+use Rattle.qs_machine.specs.Tables.{Tables, lookup, updated, no_streams, open_to, each}
 use Rattle.qs_machine.specs.Credit.{recv_ended}
 use Rattle.qs_machine.proofs.TableLaws.{slots_updated, slots_opened, slots_each}
 use Rattle.qs_machine.proofs.EndedHalves.{RecvStays}
@@ -39,17 +40,14 @@ forgotten_told l code is = go (is_some l.stop_code) (recv_over l) refl refl
 
 answers_end : (b w f k : Bool) (n : ℕ) → cond b (cond w End Wait) (cond f End (cond k (Bytes n) Wait)) ≡ End → (w ≡ true) ⊎ (f ≡ true)
 answers_end true true f k n is = inl refl
-answers_end true false f k n is = absurd (cc is)
 answers_end false w true k n is = inr refl
 answers_end false w false true n is = absurd (cc is)
-answers_end false w false false n is = absurd (cc is)
+answers_end _ _ _ _ _ is = absurd (cc is)
 
 answers_reset : (b w f k : Bool) (n c : ℕ) → cond b (cond w End Wait) (cond f End (cond k (Bytes n) Wait)) ≡ Reset c → ⊥
 answers_reset true true f k n c is = cc is
-answers_reset true false f k n c is = cc is
-answers_reset false w true k n c is = cc is
 answers_reset false w false true n c is = cc is
-answers_reset false w false false n c is = cc is
+answers_reset _ _ _ _ n c is = cc is
 
 -- all was read, so all came
 read_whole : (l : RecvLane) → IsLawful l → at_final_size l.arrived.read_count l.final_size ≡ true → is_whole l ≡ true
@@ -105,11 +103,4 @@ told_raised t now told is = subst AreTold (sym is) (slots_each (λ m o. IsToldOf
     raised (Some l) told = told
 
 pub none_told : (t : Tables RecvLane) → t ≡ no_streams → AreTold t
-unfolding lookup
-none_told t is = subst AreTold (sym is) (λ n. empty (n % 4) (n / 4))
-  where
-    empty : (k i : ℕ) → IsToldOfEnd (slice_get (table (no_streams {X = RecvLane}) k) i)
-    empty zero i = tt
-    empty (suc zero) i = tt
-    empty (suc (suc zero)) i = tt
-    empty (suc (suc (suc k))) i = tt
+none_told t is n = subst IsToldOfEnd (sym (ap (λ (x : Tables RecvLane). lookup x n) is ∙ nowhere n)) tt

@@ -1,17 +1,17 @@
 -- What it is to a table of marks that one of them is set or taken away.
-use Rattle.std.proofs.Common.{◌≡◌, ℕ, zero, suc, ◌+◌, ◌-◌, ◌/◌, ◌%◌, ◌<◌, ◌≤◌, Bool, true, false, List, ◌∷◌, ◌++◌, map, replicate, length, get_or, Option, None, Some, Result, Ok, Err, unwrap_or, refl, sym, ap, ◌∙◌, arith, inl, inr}
+use Rattle.std.proofs.Common.{◌≡◌, ℕ, zero, suc, ◌+◌, ◌-◌, ◌/◌, ◌%◌, ◌<◌, Bool, true, false, List, ◌∷◌, ◌++◌, map, replicate, length, get_or, Option, None, Some, Result, Ok, Err, unwrap_or, refl, sym, ap, ◌∙◌, arith, inl, inr}
 use Rattle.std.proofs.Math.ListN.{set}
 use Rattle.std.specs.List.{range_with_len}
 use Rattle.std.specs.Result.{OnOk, OnErr}
 use Rattle.std.proofs.lemmas.Bool.{cases_eq, false≢true}
-use Rattle.std.proofs.lemmas.Option.{slice_get_past, slice_get-get_or, unwrap_or-slice_get}
+use Rattle.std.proofs.lemmas.Option.{unwrap_or-slice_get}
 use Rattle.qs_ranges.specs.declared.NoMemory.{NoMemory}
 use Rattle.qs_machine.specs.Tables.{Tables, with_table, lookup, update, updated, open_to, widened}
 use Rattle.qs_machine.specs.Heard.{is_told, IsToldBeside, IsForgotten}
-use Rattle.qs_machine.specs.Sums.{changed, tables_of}
+use Rattle.qs_machine.specs.Sums.{tables_of}
 use Rattle.qs_machine.proofs.TableEdits.{lookup_is, with_is, table_is, opened_updated}
 use Rattle.qs_machine.proofs.TableLaws.{lookup_open, lookup_same, lookup_other}
-use Rattle.qs_conn.specs.Marks.{is_marked, IsMarkedBeside, IsUnmarkedBeside}
+use Rattle.qs_conn.specs.Marks.{is_marked, IsMarkedBeside}
 
 -- One row
 
@@ -21,13 +21,6 @@ all_unmarked lo (suc n) = ap (λ ms. false ∷ ms) (all_unmarked (lo + 1) n)
 
 pub marked_beside : (old mid new : List Bool) (n : ℕ) → mid ≡ old ++ replicate (n + 1 - length old) false → new ≡ set mid n true → IsMarkedBeside n old new
 marked_beside old mid new n opened is = is ∙ ap (λ xs. set xs n true) (opened ∙ ap (λ ms. old ++ ms) (all_unmarked (length old) (n + 1 - length old)))
-
-pub unmarked_beside : (old new : List Bool) (n : ℕ) → n < length old → new ≡ set old n false → IsUnmarkedBeside n old new
-unmarked_beside old new n there is = is ∙ ap (changed old n (λ mark. false)) (sym (slice_get-get_or old n false there))
-
--- an index past the last has no mark
-pub none_unmarked : (old : List Bool) (n : ℕ) → length old ≤ n → IsUnmarkedBeside n old old
-none_unmarked old n past = ap (changed old n (λ mark. false)) (sym (slice_get_past old n past))
 
 -- Four rows
 

@@ -1,6 +1,6 @@
 -- Searches for the least stream that has an answer of which its owner wasn't told.
-use Rattle.std.proofs.Common.{◌≡◌, ℕ, ◌/◌, ◌<◌, ◌≤◌, ◌&&◌, not, Bool, true, false, List, [], ◌∷◌, Option, None, refl, sym, ap, ◌∙◌, subst, arith, inl, inr}
-use Rattle.std.proofs.lemmas.Bool.{cases_lt, true≢false}
+use Rattle.std.proofs.Common.{◌≡◌, ℕ, ◌/◌, ◌<◌, ◌≤◌, not, Bool, true, false, List, [], ◌∷◌, Option, None, refl, sym, ap, ◌∙◌, subst, arith, inl, inr}
+use Rattle.std.proofs.lemmas.Bool.{cases_lt, and_parts, not-true}
 use Rattle.std.proofs.lemmas.Option.{none-some, unwrap_or-slice_get}
 use Rattle.qs_machine.specs.News.{IsLeast}
 use Rattle.qs_machine.specs.Heard.{is_told}
@@ -32,12 +32,8 @@ module _ (P : ℕ → Type 0) (from next : ℕ) (c : IsClear P from next) where
   none_on none = least_by P from None (λ n is. absurd (none-some n is)) (λ i ge before p. elim (cases_lt i next) [ inl lt ↦ c.none i ge lt p | inr past ↦ none i past p ])
 
 -- a mark is left only where there was one, and none was told
-left_mark : (a b : Bool) → (a && not b) ≡ true → (a ≡ true) × (b ≡ false)
-left_mark true false is = (refl, refl)
-left_mark _ _ is = absurd (true≢false (sym is))
-
 pub left_at : (ms ts : List Bool) (i : ℕ) → is_marked (untold ms ts) i ≡ true → (is_marked ms i ≡ true) × (is_marked ts i ≡ false)
-left_at ms ts i is = left_mark (is_marked ms i) (is_marked ts i) (sym (untold_is ms ts i) ∙ is)
+left_at ms ts i is = let (one, free) = and_parts (is_marked ms i) (not (is_marked ts i)) (sym (untold_is ms ts i) ∙ is) in (one, not-true (is_marked ts i) free)
 
 -- Streams of a type
 

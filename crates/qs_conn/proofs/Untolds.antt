@@ -1,31 +1,33 @@
 -- What the halves of streams have to tell was told, or they are marked: as halves, marks, records and acknowledged items change.
-use Rattle.std.proofs.Common.{if◌then◌else◌, ◌≡◌, ◌≢◌, ℕ, zero, suc, ◌+◌, ◌-◌, ◌*◌, ◌/◌, ◌%◌, ◌<◌, ◌≤◌, Bool, true, false, ◌⊎◌, List, [], ◌∷◌, ◌++◌, map, length, max, cond, take, Option, None, Some, is_some, option_map, slice_get, refl, sym, ap, ◌∙◌, subst, arith, inl, inr}
+use Rattle.std.proofs.Common.{if◌then◌else◌, ◌≡◌, ◌≢◌, ℕ, ◌+◌, ◌-◌, ◌*◌, ◌/◌, ◌%◌, ◌≤◌, Bool, true, false, ◌⊎◌, List, ◌++◌, map, length, max, cond, take, Option, None, Some, is_some, option_map, refl, sym, ap, ◌∙◌, subst, arith, inl, inr}
 use Rattle.std.specs.List.{range_with_len}
 use Rattle.std.specs.FinMap as fmap
 use Rattle.std.specs.FinSet as set
-use Rattle.std.proofs.lemmas.Bool.{both_ways, true≢false, or_right, cases_eq}
-use Rattle.std.proofs.lemmas.Option.{none-some, same_Some}
+use Rattle.std.proofs.lemmas.Bool.{true≢false, or_right, cases_eq}
+use Rattle.std.proofs.lemmas.List.{length-append}
+use Rattle.std.proofs.lemmas.List.FromFn.{length-map-range_with_len}
+use Rattle.std.proofs.lemmas.Option.{none-some, same_Some, slice_get_cases}
 use Rattle.std.specs.Cmp.{nat_cmp_total}
 use Rattle.qs_wire.specs.declared.stream_id.Role.{Role}
-use Rattle.qs_wire.specs.declared.stream_id.Dir.TheVariants.{Bidi, Uni}
+use Rattle.qs_wire.specs.declared.stream_id.Dir.TheVariants.{Bidi}
 use Rattle.qs_calls.specs.declared.settings.Settings.{Settings}
 use Rattle.qs_recv.specs.Lane.{RecvLane, new_lane as new_recv_lane}
 use Rattle.qs_recv.specs.declared.credit.Share.{Share}
-use Rattle.qs_send.specs.Lane.{SendLane, new_lane as new_send_lane, write_lane, finish_lane, allow_lane, buffer_lane, sent_lane, acked_lane, reset_acked_lane, blocked_lane}
+use Rattle.qs_send.specs.Lane.{SendLane, new_lane as new_send_lane, write_lane, allow_lane, sent_lane, acked_lane, reset_acked_lane, blocked_lane}
 use Rattle.qs_send.specs.Records.{IsCarried, first_piece, without_first}
 use Rattle.qs_send.specs.declared.parts.Chunk.{Chunk}
 use Rattle.qs_send.specs.declared.piece.Item.{Item}
-use Rattle.qs_send.specs.declared.piece.Item.TheVariants.{MaxData, MaxStreamData, MaxStreams, ResetStream, StopSending, DataBlocked, StreamDataBlocked, StreamsBlocked}
+use Rattle.qs_send.specs.declared.piece.Item.TheVariants.{MaxStreamData, MaxStreams, ResetStream, StopSending, StreamDataBlocked, StreamsBlocked}
 use Rattle.qs_send.specs.declared.piece.Piece.{Piece}
 use Rattle.qs_send.specs.declared.piece.Piece.TheVariants.{Data, Told}
 use Rattle.qs_machine.specs.Tables.{Tables, table, with_table, lookup, updated, no_streams, open_to, each}
 use Rattle.qs_machine.specs.Ends.{End, Records, AckedItems, first_window_by}
 use Rattle.qs_machine.specs.Told.{IsNoted}
-use Rattle.qs_machine.specs.Outgoing.{Outgoing, IsBlockedAt, first_acked_out, first_lost_out, acked_at, items_acked, reset_noted, blocked_noted}
-use Rattle.qs_machine.specs.Due.{Among, IsCurrent, IsCovered}
-use Rattle.qs_machine.proofs.Carried.{IsShorter, shortened_is, get_other, some_is}
-use Rattle.qs_machine.proofs.Ties.{closed_at}
-use Rattle.qs_machine.proofs.TableLaws.{lookup_same, lookup_open, with_same, slots_updated, slots_each}
+use Rattle.qs_machine.specs.Outgoing.{Outgoing, IsBlockedAt, first_acked_out, first_lost_out, acked_at, items_acked, blocked_noted}
+use Rattle.qs_machine.specs.Due.{IsCurrent, IsCovered}
+use Rattle.qs_machine.proofs.Carried.{IsShorter, shortened_is, get_other, carried_still}
+use Rattle.qs_machine.proofs.Ties.{closed_at, nowhere}
+use Rattle.qs_machine.proofs.TableLaws.{lookup_same, lookup_other, lookup_open, with_same, slots_each}
 use Rattle.qs_conn.specs.Runs.{held_out}
 use Rattle.qs_conn.specs.declared.limits.Limits.{Limits}
 use Rattle.qs_conn.specs.declared.slot.Kind.{Kind}
@@ -47,97 +49,69 @@ recv_tell P w n l limit stop = each_item (λ i. RecvTells w n l i → P i) (λ m
 pub send_tell : (P : Item → Type 0) (n : ℕ) (l : SendLane) → ((k code size : ℕ) → SendTells n l (ResetStream k code size) → P (ResetStream k code size)) → ((k m : ℕ) → SendTells n l (StreamDataBlocked k m) → P (StreamDataBlocked k m)) → (i : Item) → SendTells n l i → P i
 send_tell P n l reset blocked = each_item (λ i. SendTells n l i → P i) (λ m has. absurd has) (λ k m has. absurd has) (λ d m has. absurd has) reset (λ k code has. absurd has) (λ m has. absurd has) blocked (λ d m has. absurd has)
 
--- One stream
+-- One part of a table changes
 
-module _ {L : Type 0} (T : L → Item → Type 0) where
-  -- no mark went, and what was told stays told where no mark is
-  at_stay : (m m' : Records) (a a' : AckedItems) (k k' : Option Bool) (x : Option L) → HasMoreAt k k' → (k' ≡ Some false → (l : L) (i : Item) → T l i → IsToldIn m a i → IsToldIn m' a' i) → IsToldAt T m a k x → IsToldAt T m' a' k' x
-  at_stay m m' a a' k k' None more keep h = tt
-  at_stay m m' a a' None k' (Some l) more keep h = absurd h
-  at_stay m m' a a' (Some b) None (Some l) more keep h = absurd more
-  at_stay m m' a a' (Some b) (Some true) (Some l) more keep h = tt
-  at_stay m m' a a' (Some true) (Some false) (Some l) more keep h = absurd (true≢false (sym more))
-  at_stay m m' a a' (Some false) (Some false) (Some l) more keep h = λ i has. keep refl l i has (h i has)
+pub updated_here : {X : Type 0} (t : Tables X) (n : ℕ) (f : X → X) → lookup (updated t n f (lookup t n)) n ≡ option_map f (lookup t n)
+updated_here {X} t n f = go (lookup t n) refl
+  where
+    go : (o : Option X) → lookup t n ≡ o → lookup (updated t n f o) n ≡ option_map f o
+    go None is = is
+    go (Some x) is = lookup_same t n x (f x) is
 
-  -- the half becomes one that has no more to tell, or its stream has a mark
-  at_changed : (m : Records) (a : AckedItems) (k k' : Option Bool) (x y : L) → HasMoreAt k k' → (k' ≡ Some false → (i : Item) → T y i → T x i) → IsToldAt T m a k (Some x) → IsToldAt T m a k' (Some y)
-  at_changed m a None k' x y more calm h = absurd h
-  at_changed m a (Some b) None x y more calm h = absurd more
-  at_changed m a (Some b) (Some true) x y more calm h = tt
-  at_changed m a (Some true) (Some false) x y more calm h = absurd (true≢false (sym more))
-  at_changed m a (Some false) (Some false) x y more calm h = λ i has. h i (calm refl i has)
+pub updated_other : {X : Type 0} (t : Tables X) (n k : ℕ) (f : X → X) → k ≢ n → lookup (updated t n f (lookup t n)) k ≡ lookup t k
+updated_other {X} t n k f ne = go (lookup t n)
+  where
+    go : (o : Option X) → lookup (updated t n f o) k ≡ lookup t k
+    go None = refl
+    go (Some x) = lookup_other t n k (f x) ne
 
-  at_fewer : (m : Records) (a : AckedItems) (k : Option Bool) (x y : Option L) → ((l : L) → y ≡ Some l → x ≡ Some l) → IsToldAt T m a k x → IsToldAt T m a k y
-  at_fewer m a k x None fewer h = tt
-  at_fewer m a k x (Some l) fewer h = subst (IsToldAt T m a k) (fewer l refl) h
+-- what holds of the others still, and of this one now, holds of each
+pub slots_changed : {X : Type 0} (P : ℕ → Option X → Type 0) (t : Tables X) (n : ℕ) (f : X → X) → ((k : ℕ) → k ≢ n → P k (lookup t k)) → P n (option_map f (lookup t n)) → (k : ℕ) → P k (lookup (updated t n f (lookup t n)) k)
+slots_changed P t n f others here k =
+    elim (cases_eq k n) [ inl e ↦ subst (λ j. P j (lookup (updated t n f (lookup t n)) j)) (sym e) (subst (P n) (sym (updated_here t n f)) here) | inr ne ↦ subst (P k) (sym (updated_other t n k f ne)) (others k ne) ]
 
-  -- a half opens that has nothing to tell
-  at_begun : (m : Records) (a : AckedItems) (k : Option Bool) (x : L) → is_some k ≡ true → ((i : Item) → T x i → ⊥) → IsToldAt T m a k (Some x)
-  at_begun m a None x some none = absurd (both_ways false refl some)
-  at_begun m a (Some true) x some none = tt
-  at_begun m a (Some false) x some none = λ i has. absurd (none i has)
+pub of_mapped : {X Y : Type 0} (f : X → Y) (o : Option X) (P : Y → Type 0) → ((x : X) → o ≡ Some x → P (f x)) → (y : Y) → option_map f o ≡ Some y → P y
+of_mapped f None P all y is = absurd (none-some y is)
+of_mapped f (Some x) P all y is = subst P (same_Some (f x) y is) (all x refl)
+
+mapped_some : {X : Type 0} (f : X → X) (o : Option X) → is_some (option_map f o) ≡ is_some o
+mapped_some f None = refl
+mapped_some f (Some x) = refl
 
 -- Marks
 
-more_same : (k : Option Bool) → HasMoreAt k k
-more_same (Some true) = refl
-more_same _ = tt
-
-more_twice : (a b c : Option Bool) → HasMoreAt a b → HasMoreAt b c → HasMoreAt a c
-more_twice None None (Some z) p q = absurd q
-more_twice None (Some y) c p q = absurd p
-more_twice (Some x) None c p q = absurd p
-more_twice (Some x) (Some y) None p q = absurd q
-more_twice (Some true) (Some true) (Some z) p q = q
-more_twice (Some true) (Some false) (Some z) p q = absurd (true≢false (sym p))
-more_twice _ _ _ _ _ = tt
-
 pub has_same : (t : Tables Bool) → HasMore t t
-has_same t n = more_same (lookup t n)
+has_same t n = (refl, λ on. on)
 
 pub has_twice : (t u v : Tables Bool) → HasMore t u → HasMore u v → HasMore t v
-has_twice t u v p q n = more_twice (lookup t n) (lookup u n) (lookup v n) (p n) (q n)
+has_twice t u v p q n = ((q n).0 ∙ (p n).0, λ on. (q n).1 ((p n).1 on))
 
 -- one more mark
 pub has_marked : (t : Tables Bool) (k : ℕ) → HasMore t (updated t k (λ b. true) (lookup t k))
-has_marked t k = go (lookup t k) refl
-  where
-    marked : (x : Option Bool) (b : Bool) → x ≡ Some b → HasMoreAt x (Some true)
-    marked None b is = absurd (none-some b is)
-    marked (Some true) b is = refl
-    marked (Some false) b is = tt
-
-    go : (x : Option Bool) → lookup t k ≡ x → HasMore t (updated t k (λ b. true) x)
-    go None is = has_same t
-    go (Some b) is = slots_updated (λ n o. HasMoreAt (lookup t n) o) t k b true is (λ n ne. more_same (lookup t n)) (marked (lookup t k) b is)
+has_marked t k = slots_changed (λ n o. HasMoreAt (lookup t n) o) t k (λ b. true) (λ n ne. has_same t n) (mapped_some (λ b. true) (lookup t k), λ on. ap (option_map (λ b. true)) on)
 
 pub has_new : (t u : Tables Bool) (k : ℕ) → u ≡ updated t k (λ b. true) (lookup t k) → HasMore t u
 has_new t u k is = subst (HasMore t) (sym is) (has_marked t k)
 
-unmarked_at : (k k' : Option Bool) → HasMoreAt k k' → k' ≡ Some false → k ≡ Some false
-unmarked_at None None more is = is
-unmarked_at (Some true) (Some b) more is = absurd (true≢false (sym more ∙ same_Some b false is))
-unmarked_at (Some false) (Some b) more is = refl
-unmarked_at _ _ more _ = absurd more
-
 -- what has no mark had none
 pub unmarked_before : (t u : Tables Bool) (n : ℕ) → HasMore t u → lookup u n ≡ Some false → lookup t n ≡ Some false
-unmarked_before t u n more is = unmarked_at (lookup t n) (lookup u n) (more n) is
+unmarked_before t u n more is = go (lookup t n) (more n)
+  where
+    go : (k : Option Bool) → HasMoreAt k (lookup u n) → k ≡ Some false
+    go (Some false) more = refl
+    go (Some true) more = absurd (true≢false (same_Some true false (sym (more.1 refl) ∙ is)))
+    go None more = absurd (true≢false (ap is_some (sym is) ∙ more.0))
 
 -- a mark was set
 pub is_marked_now : (t : Tables Bool) (k : ℕ) → lookup (updated t k (λ b. true) (lookup t k)) k ≡ Some false → ⊥
-is_marked_now t k = go (lookup t k) refl
-  where
-    go : (x : Option Bool) → lookup t k ≡ x → lookup (updated t k (λ b. true) x) k ≡ Some false → ⊥
-    go None is free = none-some false (sym is ∙ free)
-    go (Some b) is free = true≢false (same_Some true false (sym (lookup_same t k b true is) ∙ free))
+is_marked_now t k free = of_mapped (λ b. true) (lookup t k) (λ b. b ≡ false → ⊥) (λ b at. true≢false) false (sym (updated_here t k (λ b. true)) ∙ free) refl
 
 -- All streams
 
 module _ {L : Type 0} (T : ℕ → L → Item → Type 0) (lanes : Tables L) (m : Records) (a : AckedItems) (marks : Tables Bool) (h : AreTold T lanes m a marks) where
   -- marks, records and acknowledged items change
   told_stay : (m' : Records) (a' : AckedItems) (marks' : Tables Bool) → HasMore marks marks' → ((n : ℕ) (l : L) (i : Item) → lookup marks' n ≡ Some false → T n l i → IsToldIn m a i → IsToldIn m' a' i) → AreTold T lanes m' a' marks'
-  told_stay m' a' marks' more keep n = at_stay (T n) m m' a a' (lookup marks n) (lookup marks' n) (lookup lanes n) (more n) (λ is l i. keep n l i is) (h n)
+  told_stay m' a' marks' more keep = record { each = λ n l at. ((more n).0 ∙ (h.each n l at).0, λ free i has. keep n l i free has ((h.each n l at).1 (unmarked_before marks marks' n more free) i has)) }
 
   pub told_marked : (marks' : Tables Bool) → HasMore marks marks' → AreTold T lanes m a marks'
   told_marked marks' more = told_stay m a marks' more (λ n l i is has was. was)
@@ -147,14 +121,15 @@ module _ {L : Type 0} (T : ℕ → L → Item → Type 0) (lanes : Tables L) (m 
   told_carried m' keep = told_stay m' a marks (has_same marks) (λ n l i is has was. elim was [ inl out ↦ inl (keep (Told i) out) | inr known ↦ inr known ])
 
   -- a half becomes one that has no more to tell, or its stream has a mark
+  less_told : (marks' : Tables Bool) (n : ℕ) (x y : L) → HasMore marks marks' → (lookup marks' n ≡ Some false → (i : Item) → T n y i → T n x i) → lookup lanes n ≡ Some x → IsToldAt (T n) m a (lookup marks' n) y
+  less_told marks' n x y more calm at = ((more n).0 ∙ (h.each n x at).0, λ free i has. (h.each n x at).1 (unmarked_before marks marks' n more free) i (calm free i has))
+
   pub told_changed : (now : Tables L) (marks' : Tables Bool) (n : ℕ) (f : L → L) → now ≡ updated lanes n f (lookup lanes n) → HasMore marks marks' → ((l : L) → lookup lanes n ≡ Some l → lookup marks' n ≡ Some false → (i : Item) → T n (f l) i → T n l i) → AreTold T now m a marks'
-  told_changed now marks' n f is more calm = subst (λ (t : Tables L). AreTold T t m a marks') (sym is) (go (lookup lanes n) refl)
-    where
-      go : (x : Option L) → lookup lanes n ≡ x → AreTold T (updated lanes n f x) m a marks'
-      go None at = told_marked marks' more
-      go (Some l) at =
-          slots_updated (λ k o. IsToldAt (T k) m a (lookup marks' k) o) lanes n l (f l) at (λ k ne. told_marked marks' more k)
-          (at_changed (T n) m a (lookup marks n) (lookup marks' n) l (f l) (more n) (calm l at) (subst (IsToldAt (T n) m a (lookup marks n)) at (h n)))
+  told_changed now marks' n f is more calm =
+      rw is (record {
+        each = slots_changed (λ k o. (l : L) → o ≡ Some l → IsToldAt (T k) m a (lookup marks' k) l) lanes n f (λ k ne. (told_marked marks' more).each k)
+            (of_mapped f (lookup lanes n) (IsToldAt (T n) m a (lookup marks' n)) (λ x at. less_told marks' n x (f x) more (calm x at) at));
+      })
 
   -- it has a mark now
   pub told_edited : (now : Tables L) (marks' : Tables Bool) (n : ℕ) (f : L → L) → now ≡ updated lanes n f (lookup lanes n) → marks' ≡ updated marks n (λ b. true) (lookup marks n) → AreTold T now m a marks'
@@ -166,69 +141,45 @@ module _ {L : Type 0} (T : ℕ → L → Item → Type 0) (lanes : Tables L) (m 
 
   -- a stream is marked no more, of which all was told
   pub told_unmarked : (marks' : Tables Bool) (n : ℕ) → marks' ≡ updated marks n (λ b. false) (lookup marks n) → ((l : L) → lookup lanes n ≡ Some l → HasTold (T n) m a l) → AreTold T lanes m a marks'
-  told_unmarked marks' n are all = subst (AreTold T lanes m a) (sym are) (go (lookup marks n) refl)
-    where
-      by_lane : (x : Option L) → lookup lanes n ≡ x → IsToldAt (T n) m a (Some false) x
-      by_lane None at = tt
-      by_lane (Some l) at = all l at
-
-      go : (k : Option Bool) → lookup marks n ≡ k → AreTold T lanes m a (updated marks n (λ b. false) k)
-      go None mark = h
-      go (Some b) mark = slots_updated (λ k o. IsToldAt (T k) m a o (lookup lanes k)) marks n b false mark (λ k ne. h k) (by_lane (lookup lanes n) refl)
+  told_unmarked marks' n are all =
+      rw are (record { each = slots_changed (λ k o. (l : L) → lookup lanes k ≡ Some l → IsToldAt (T k) m a o l) marks n (λ b. false) (λ k ne. h.each k) (λ l at. (mapped_some (λ b. false) (lookup marks n) ∙ (h.each n l at).0, λ free. all l at)) })
 
   -- each half is changed
   pub told_each : (f : L → L) (now : Tables L) (marks' : Tables Bool) → now ≡ each f lanes → HasMore marks marks' → ((n : ℕ) (l : L) → lookup lanes n ≡ Some l → lookup marks' n ≡ Some false → f l ≡ l) → AreTold T now m a marks'
-  told_each f now marks' is more same = subst (λ (t : Tables L). AreTold T t m a marks') (sym is) (slots_each (λ n o. IsToldAt (T n) m a (lookup marks' n) o) f lanes (λ n. go n (lookup lanes n) refl))
-    where
-      go : (n : ℕ) (x : Option L) → lookup lanes n ≡ x → IsToldAt (T n) m a (lookup marks' n) (option_map f x)
-      go n None at = tt
-      go n (Some l) at = at_changed (T n) m a (lookup marks n) (lookup marks' n) l (f l) (more n) (λ free i has. subst (λ k. T n k i) (same n l at free) has) (subst (IsToldAt (T n) m a (lookup marks n)) at (h n))
+  told_each f now marks' is more same =
+      rw is (record {
+        each = slots_each (λ n o. (l : L) → o ≡ Some l → IsToldAt (T n) m a (lookup marks' n) l) f lanes
+            (λ n. of_mapped f (lookup lanes n) (IsToldAt (T n) m a (lookup marks' n)) (λ x at. less_told marks' n x (f x) more (λ free i has. subst (λ k. T n k i) (same n x at free) has) at));
+      })
 
-  -- streams are taken away
-  told_fewer : (now : Tables L) → ((n : ℕ) (l : L) → lookup now n ≡ Some l → lookup lanes n ≡ Some l) → AreTold T now m a marks
-  told_fewer now fewer n = at_fewer (T n) m a (lookup marks n) (lookup lanes n) (lookup now n) (fewer n) (h n)
-
-  -- the lanes of a type from a count on are
+  -- the lanes of a type from a count on are taken away
   pub told_closed : (mid now : Tables L) (n count : ℕ) → mid ≡ lanes → now ≡ with_table mid (n % 4) (take count (table mid (n % 4))) → AreTold T now m a marks
-  told_closed mid now n count is cut = told_fewer now (λ k l at. closed_at lanes n count k l (sym (ap (λ (t : Tables L). lookup t k) (cut ∙ ap (λ (t : Tables L). with_table t (n % 4) (take count (table t (n % 4)))) is)) ∙ at))
+  told_closed mid now n count is cut = record { each = λ k l at. h.each k l (closed_at lanes n count k l (sym (ap (λ (t : Tables L). lookup t k) (cut ∙ ap (λ (t : Tables L). with_table t (n % 4) (take count (table t (n % 4)))) is)) ∙ at)) }
 
   -- of a stream without a mark all was told
   pub told_here : (n : ℕ) → ((b : Bool) → lookup marks n ≡ Some b → b ≡ false) → (l : L) → lookup lanes n ≡ Some l → HasTold (T n) m a l
-  told_here n free l at = go (lookup marks n) free (subst (IsToldAt (T n) m a (lookup marks n)) at (h n))
+  told_here n free l at = (h.each n l at).1 (go (lookup marks n) (h.each n l at).0 free)
     where
-      go : (k : Option Bool) → ((b : Bool) → k ≡ Some b → b ≡ false) → IsToldAt (T n) m a k (Some l) → HasTold (T n) m a l
-      go None only told = absurd told
-      go (Some true) only told = absurd (true≢false (only true refl))
-      go (Some false) only told = told
+      go : (k : Option Bool) → is_some k ≡ true → ((b : Bool) → k ≡ Some b → b ≡ false) → k ≡ Some false
+      go (Some b) some only = ap Some (only b refl)
+      go None some only = absurd (true≢false (sym some))
 
 pub told_none : {L : Type 0} (T : ℕ → L → Item → Type 0) (lanes : Tables L) (m : Records) (a : AckedItems) (marks : Tables Bool) → lanes ≡ no_streams → AreTold T lanes m a marks
-unfolding lookup
-told_none {L} T lanes m a marks is = subst (λ (t : Tables L). AreTold T t m a marks) (sym is) (λ n. empty n (n % 4) (n / 4))
-  where
-    empty : (n k i : ℕ) → IsToldAt (T n) m a (lookup marks n) (slice_get (table (no_streams {X = L}) k) i)
-    empty n zero i = tt
-    empty n (suc zero) i = tt
-    empty n (suc (suc zero)) i = tt
-    empty n (suc (suc (suc k))) i = tt
+told_none T lanes m a marks is = record { each = λ n l at. absurd (none-some l (sym (ap (λ t. lookup t n) is ∙ nowhere n) ∙ at)) }
 
 -- Streams open
-
-begun_some : {X : Type 0} (begin : ℕ → X) (lo k i : ℕ) → i < k → is_some (slice_get (map begin (range_with_len lo k)) i) ≡ true
-begun_some begin lo zero i lt = absurd (omega (arith, lt))
-begun_some begin lo (suc k) zero lt = refl
-begun_some begin lo (suc k) (suc i) lt = begun_some begin (lo + 1) k i (omega (arith, lt))
-
-widened_some : {X : Type 0} (xs : List X) (begin : ℕ → X) (lo k i : ℕ) → i < length xs + k → is_some (slice_get (xs ++ map begin (range_with_len lo k)) i) ≡ true
-widened_some [] begin lo k i lt = begun_some begin lo k i (omega (arith, lt))
-widened_some (y ∷ xs) begin lo k zero lt = refl
-widened_some (y ∷ xs) begin lo k (suc i) lt = widened_some xs begin lo k i (omega (arith, lt))
 
 -- each stream up to the one that was opened has a place
 pub opened_some : (t : Tables Bool) (n m : ℕ) (begin : ℕ → Bool) → m % 4 ≡ n % 4 → m ≤ n → is_some (lookup (open_to t n begin) m) ≡ true
 unfolding open_to
 opened_some t n m begin e le =
+    let xs = table t (n % 4) in
+    let new = map (λ (i : ℕ). begin (i * 4 + n % 4)) (range_with_len (length xs) (n / 4 + 1 - length xs)) in
     ap is_some (with_same t n m _ e)
-    ∙ widened_some (table t (n % 4)) (λ i. begin (i * 4 + n % 4)) (length (table t (n % 4))) (n / 4 + 1 - length (table t (n % 4))) (m / 4) (omega (arith, le))
+    ∙ elim (slice_get_cases (xs ++ new) (m / 4)).1 [
+      | inl (x, in_list, there, read) ↦ ap is_some there
+      | inr (past, none) ↦ absurd (omega (arith, le, past, length-append xs new, length-map-range_with_len (λ (i : ℕ). begin (i * 4 + n % 4)) (length xs) (n / 4 + 1 - length xs)))
+    ]
 
 module _ {L : Type 0} (T : ℕ → L → Item → Type 0) (lanes : Tables L) (m : Records) (a : AckedItems) (marks : Tables Bool) (h : AreTold T lanes m a marks) (n : ℕ) where
   abbrev places : Tables Bool
@@ -236,26 +187,22 @@ module _ {L : Type 0} (T : ℕ → L → Item → Type 0) (lanes : Tables L) (m 
 
   -- places for marks are made
   pub told_placed : AreTold T lanes m a places
-  told_placed k = elim (lookup_open marks n k (λ j. false)) [
-    | inl same ↦ subst (λ o. IsToldAt (T k) m a o (lookup lanes k)) (sym same) (h k)
-    | inr (none, kind, le, new) ↦ none_open (lookup lanes k) (subst (λ o. IsToldAt (T k) m a o (lookup lanes k)) none (h k))
-  ]
-    where
-      none_open : (x : Option L) → IsToldAt (T k) m a None x → IsToldAt (T k) m a (lookup places k) x
-      none_open None told = tt
-      none_open (Some l) told = absurd told
+  told_placed = record {
+    each = λ k l at. elim (lookup_open marks n k (λ j. false)) [
+      | inl same ↦ subst (λ o. IsToldAt (T k) m a o l) (sym same) (h.each k l at)
+      | inr (none, kind, le, new) ↦ absurd (true≢false (sym (h.each k l at).0 ∙ ap is_some none))
+    ];
+  }
 
-  -- and then the streams, which have nothing to tell
-  told_opened : (begin : ℕ → L) → ((k : ℕ) → k % 4 ≡ n % 4 → (i : Item) → T k (begin k) i → ⊥) → AreTold T (open_to lanes n begin) m a places
-  told_opened begin none k = elim (lookup_open lanes n k begin) [
-    | inl same ↦ subst (IsToldAt (T k) m a (lookup places k)) (sym same) (told_placed k)
-    | inr (gone, kind, le, new) ↦ subst (IsToldAt (T k) m a (lookup places k)) (sym new) (at_begun (T k) m a (lookup places k) (begin k) (opened_some marks n k (λ j. false) kind le) (none k kind))
-  ]
-
-  -- or none does, of halves that the stream doesn't have
+  -- and then the streams, which have nothing to tell, or none does, of halves that the stream doesn't have
   told_opens : (absent : Bool) (now : Tables L) (begin : ℕ → L) → now ≡ cond absent lanes (open_to lanes n begin) → ((k : ℕ) → k % 4 ≡ n % 4 → (i : Item) → T k (begin k) i → ⊥) → AreTold T now m a places
-  told_opens true now begin is none = subst (λ (t : Tables L). AreTold T t m a places) (sym is) told_placed
-  told_opens false now begin is none = subst (λ (t : Tables L). AreTold T t m a places) (sym is) (told_opened begin none)
+  told_opens true now begin is none = rw is told_placed
+  told_opens false now begin is none = record {
+    each = λ k l at. elim (lookup_open lanes n k begin) [
+      | inl same ↦ told_placed.each k l (sym same ∙ sym (ap (λ (t : Tables L). lookup t k) is) ∙ at)
+      | inr (gone, kind, le, new) ↦ (opened_some marks n k (λ j. false) kind le, λ free i has. absurd (none k kind i (subst (λ x. T k x i) (same_Some l (begin k) (sym at ∙ ap (λ (t : Tables L). lookup t k) is ∙ new)) has)))
+    ];
+  }
 
 pub recvs_open : (r : Role) (s : Settings) (recvs now : Tables RecvLane) (m : Records) (a : AckedItems) (marks : Tables Bool) (n w : ℕ) (share : Share) (absent : Bool) → AreTold (TellsAt r s) recvs m a marks → now ≡ cond absent recvs (open_to recvs n (λ k. new_recv_lane w share)) → w ≡ first_window_by r s n
     → AreTold (TellsAt r s) now m a (open_to marks n (λ k. false))
@@ -283,10 +230,7 @@ module _ (sends : Tables SendLane) (m : Records) (a : AckedItems) (marks : Table
   moved marks' f is reset acked more blocked =
       told_changed SendTells sends m a marks h now marks' n f is more
       (λ l there free. send_tell (SendTells n l) n (f l) (λ k code size (same, was, part). (same, sym (reset l) ∙ was, sym (acked l) ∙ part))
-      (λ k at (same, here). absurd (blocked at (subst (λ o. IsBlockedAt o at) (sym (ap (λ (t : Tables SendLane). lookup t n) is ∙ after l there)) here) free)))
-    where
-      after : (l : SendLane) → lookup sends n ≡ Some l → lookup (updated sends n f (lookup sends n)) n ≡ Some (f l)
-      after l there = subst (λ o. lookup (updated sends n f o) n ≡ Some (f l)) (sym there) (lookup_same sends n l (f l) there)
+      (λ k at (same, here). absurd (blocked at (subst (λ o. IsBlockedAt o at) (sym (ap (λ (t : Tables SendLane). lookup t n) is ∙ updated_here sends n f ∙ ap (option_map f) there)) here) free)))
 
   pub told_written : (marks' : Tables Bool) (bytes : List ℕ) → now ≡ updated sends n (λ l. write_lane l bytes) (lookup sends n) → HasMore marks marks' → ((at : ℕ) → IsBlockedAt (lookup now n) at → lookup marks' n ≡ Some false → ⊥) → AreTold SendTells now m a marks'
   told_written marks' bytes is = moved marks' (λ l. write_lane l bytes) is (λ l. refl) (λ l. refl)
@@ -294,32 +238,21 @@ module _ (sends : Tables SendLane) (m : Records) (a : AckedItems) (marks : Table
   pub told_sent : (marks' : Tables Bool) (c : Chunk) → now ≡ updated sends n (λ l. sent_lane l c) (lookup sends n) → HasMore marks marks' → ((at : ℕ) → IsBlockedAt (lookup now n) at → lookup marks' n ≡ Some false → ⊥) → AreTold SendTells now m a marks'
   told_sent marks' c is = moved marks' (λ l. sent_lane l c) is (λ l. refl) (λ l. refl)
 
-  -- what doesn't move what is to be told
-  pub told_finished : now ≡ updated sends n finish_lane (lookup sends n) → AreTold SendTells now m a marks
-  told_finished is = told_updated SendTells sends m a marks h now n finish_lane is (λ l at. send_tell (SendTells n l) n (finish_lane l) (λ k code size has. has) (λ k limit has. has))
-
-  pub told_buffered : (size : ℕ) → now ≡ updated sends n (λ l. buffer_lane l size) (lookup sends n) → AreTold SendTells now m a marks
-  told_buffered size is = told_updated SendTells sends m a marks h now n (λ l. buffer_lane l size) is (λ l at. send_tell (SendTells n l) n (buffer_lane l size) (λ k code size has. has) (λ k limit has. has))
-
-  told_acked : (c : Chunk) → now ≡ updated sends n (λ l. acked_lane l c) (lookup sends n) → AreTold SendTells now m a marks
-  told_acked c is = told_updated SendTells sends m a marks h now n (λ l. acked_lane l c) is (λ l at. send_tell (SendTells n l) n (acked_lane l c) (λ k code size has. has) (λ k limit has. has))
-
-  told_reset_acked : now ≡ updated sends n reset_acked_lane (lookup sends n) → AreTold SendTells now m a marks
-  told_reset_acked is = told_updated SendTells sends m a marks h now n reset_acked_lane is (λ l at. send_tell (SendTells n l) n (reset_acked_lane l) (λ k code size has. absurd (true≢false has.2)) (λ k limit has. has))
-
-  told_blocked : now ≡ updated sends n blocked_lane (lookup sends n) → AreTold SendTells now m a marks
-  told_blocked is = told_updated SendTells sends m a marks h now n blocked_lane is (λ l at. send_tell (SendTells n l) n (blocked_lane l) (λ k code size has. has) (λ k limit has. has))
+  -- nothing more is to be told of it
+  pub told_calm : (f : SendLane → SendLane) → now ≡ updated sends n f (lookup sends n) → ((l : SendLane) → lookup sends n ≡ Some l → (k code size : ℕ) → SendTells n (f l) (ResetStream k code size) → SendTells n l (ResetStream k code size))
+      → ((l : SendLane) → lookup sends n ≡ Some l → (k limit : ℕ) → SendTells n (f l) (StreamDataBlocked k limit) → SendTells n l (StreamDataBlocked k limit)) → AreTold SendTells now m a marks
+  told_calm f is reset block = told_updated SendTells sends m a marks h now n f is (λ l at. send_tell (SendTells n l) n (f l) (reset l at) (block l at))
 
   -- a limit that rises is above all that was sent
   pub told_allowed : (limit : ℕ) → ((l : SendLane) → lookup sends n ≡ Some l → l.sent_end ≤ l.limit) → now ≡ updated sends n (λ l. allow_lane l limit) (lookup sends n) → AreTold SendTells now m a marks
   told_allowed limit sent is =
-      told_updated SendTells sends m a marks h now n (λ l. allow_lane l limit) is
-      (λ l at. send_tell (SendTells n l) n (allow_lane l limit) (λ k code size has. has)
-      (λ k to (same, (none, here, more, whole)). (let below = sent l at in let stays : max l.limit limit ≡ l.limit = omega (arith, whole, below) in (same, (none, here ∙ stays, omega (arith, more, stays), whole ∙ stays)))))
+      told_calm (λ l. allow_lane l limit) is (λ l at k code size has. has)
+      (λ l at k to (same, (none, here, more, whole)). (let below = sent l at in let stays : max l.limit limit ≡ l.limit = omega (arith, whole, below) in (same, (none, here ∙ stays, omega (arith, more, stays), whole ∙ stays))))
 
 -- an item went into the packet
 pub told_put : (i : Item) (sends : Tables SendLane) (m : Records) (a : AckedItems) (marks : Tables Bool) → AreTold SendTells sends m a marks → AreTold SendTells (blocked_noted i sends) m a marks
-told_put i sends m a marks h = each_item (λ j. AreTold SendTells (blocked_noted j sends) m a marks) (λ v. h) (λ n v. h) (λ d v. h) (λ n code size. h) (λ n code. h) (λ v. h) (λ n v. told_blocked sends m a marks h _ n refl) (λ d v. h) i
+told_put (StreamDataBlocked n v) sends m a marks h = told_calm sends m a marks h _ n blocked_lane refl (λ l at k code size has. has) (λ l at k limit has. has)
+told_put _ sends m a marks h = h
 
 -- A piece leaves its packet
 
@@ -337,62 +270,28 @@ module _ (of : Item → Option ℕ) where
   not_left p t n i free at is = is_marked_now t n (subst (λ o. lookup (marked_at o t) n ≡ Some false) at (subst (λ q. lookup (marked_for of q t) n ≡ Some false) (sym is) free))
 
 -- other pieces of the packet stay in it
-still_carried : (m m' : Records) (k : ℕ) (p q : Piece) → IsShorter m k p m' → (q ≡ p → ⊥) → IsCarried m q → IsCarried m' q
-still_carried m m' k p q short other (j, ps, at, among) =
-    elim (cases_eq j k) [
-      | inr ne ↦ (j, ps, short.others j ne ∙ at, among)
-      | inl same ↦
-          (let rest = short.was.0 in
-          let listed : ps ≡ p ∷ rest = some_is (fmap.get m k) ps (p ∷ rest) (ap (fmap.get m) (sym same) ∙ at) short.was.1 in
-          go (subst (λ xs. Among q xs) listed among))
-    ]
-  where
-    go : Among q (p ∷ short.was.0) → IsCarried m' q
-    go (inl is) = absurd (other is)
-    go (inr later) = (k, short.was.0, short.was.3 q later, later)
+others_stay : (m m' : Records) (k : ℕ) (p q : Piece) → IsShorter m k p m' → (q ≡ p → ⊥) → IsCarried m q → IsCarried m' q
+others_stay m m' k p q short other out = elim (carried_still m m' k p short q out) [ inl is ↦ absurd (other is) | inr still ↦ still ]
 
 limit_noted : (p : Piece) (t : Tables Bool) (k m : ℕ) (a : AckedItems) → lookup (marked_for told_by_recv p t) k ≡ Some false → fmap.get a.max_stream_data k ≡ Some m → fmap.get (items_acked p a).max_stream_data k ≡ Some m
-limit_noted (Data j c) t k m a free known = known
-limit_noted (Told (MaxData v)) t k m a free known = known
 limit_noted (Told (MaxStreamData j v)) t k m a free known =
-    let ne : k ≢ j = λ e. is_marked_now t j (subst (λ q. lookup (updated t j (λ b. true) (lookup t j)) q ≡ Some false) e free) in
-    get_other a.max_stream_data j _ k ne ∙ known
+    get_other a.max_stream_data j _ k (λ e. is_marked_now t j (subst (λ q. lookup (updated t j (λ b. true) (lookup t j)) q ≡ Some false) e free)) ∙ known
 limit_noted (Told (MaxStreams Bidi v)) t k m a free known = known
-limit_noted (Told (MaxStreams Uni v)) t k m a free known = known
-limit_noted (Told (ResetStream j code size)) t k m a free known = known
-limit_noted (Told (StopSending j code)) t k m a free known = known
-limit_noted (Told (DataBlocked v)) t k m a free known = known
-limit_noted (Told (StreamDataBlocked j v)) t k m a free known = known
 limit_noted (Told (StreamsBlocked Bidi v)) t k m a free known = known
-limit_noted (Told (StreamsBlocked Uni v)) t k m a free known = known
+limit_noted _ t k m a free known = known
 
 block_noted : (p : Piece) (t : Tables Bool) (k m : ℕ) (a : AckedItems) → lookup (marked_for told_by_send p t) k ≡ Some false → fmap.get a.stream_data_blocked k ≡ Some m → fmap.get (items_acked p a).stream_data_blocked k ≡ Some m
-block_noted (Data j c) t k m a free known = known
-block_noted (Told (MaxData v)) t k m a free known = known
 block_noted (Told (StreamDataBlocked j v)) t k m a free known =
-    let ne : k ≢ j = λ e. is_marked_now t j (subst (λ q. lookup (updated t j (λ b. true) (lookup t j)) q ≡ Some false) e free) in
-    get_other a.stream_data_blocked j _ k ne ∙ known
+    get_other a.stream_data_blocked j _ k (λ e. is_marked_now t j (subst (λ q. lookup (updated t j (λ b. true) (lookup t j)) q ≡ Some false) e free)) ∙ known
 block_noted (Told (MaxStreams Bidi v)) t k m a free known = known
-block_noted (Told (MaxStreams Uni v)) t k m a free known = known
-block_noted (Told (ResetStream j code size)) t k m a free known = known
-block_noted (Told (StopSending j code)) t k m a free known = known
-block_noted (Told (DataBlocked v)) t k m a free known = known
-block_noted (Told (MaxStreamData j v)) t k m a free known = known
 block_noted (Told (StreamsBlocked Bidi v)) t k m a free known = known
-block_noted (Told (StreamsBlocked Uni v)) t k m a free known = known
+block_noted _ t k m a free known = known
 
 stop_noted : (p : Piece) (k : ℕ) (a : AckedItems) → set.contains a.stop_sending k ≡ true → set.contains (items_acked p a).stop_sending k ≡ true
-stop_noted (Data j c) k a known = known
-stop_noted (Told (MaxData v)) k a known = known
-stop_noted (Told (MaxStreamData j v)) k a known = known
-stop_noted (Told (MaxStreams Bidi v)) k a known = known
-stop_noted (Told (MaxStreams Uni v)) k a known = known
-stop_noted (Told (ResetStream j code size)) k a known = known
 stop_noted (Told (StopSending j code)) k a known = set.contains-insert nat_cmp_total a.stop_sending j k ∙ or_right _ _ known
-stop_noted (Told (DataBlocked v)) k a known = known
-stop_noted (Told (StreamDataBlocked j v)) k a known = known
+stop_noted (Told (MaxStreams Bidi v)) k a known = known
 stop_noted (Told (StreamsBlocked Bidi v)) k a known = known
-stop_noted (Told (StreamsBlocked Uni v)) k a known = known
+stop_noted _ k a known = known
 
 -- of a half without a mark what is known to be told is known still
 abbrev pub AreNoted : {L : Type 0} → (ℕ → L → Item → Type 0) → (Item → Option ℕ) → Type 0
@@ -424,14 +323,14 @@ module _ {L : Type 0} (T : ℕ → L → Item → Type 0) (of : Item → Option 
     where
       go : (late : Bool) → first_piece (fmap.get (held_out late o) k) ≡ Some p → (n : ℕ) (l : L) (i : Item) → lookup (marked_for of p marks) n ≡ Some false → T n l i → IsCarried o.outstanding (Told i) → IsCarried (if late then o.outstanding else without_first o.outstanding k (fmap.get o.outstanding k)) (Told i)
       go true first n l i free has out = out
-      go false first n l i free has out = still_carried o.outstanding _ k p (Told i) (shortened_is o.outstanding k p first) (not_left of p marks n i free (own n l i has)) out
+      go false first n l i free has out = others_stay o.outstanding _ k p (Told i) (shortened_is o.outstanding k p first) (not_left of p marks n i free (own n l i has)) out
 
   -- a piece is lost
   pub lost_stays : (k : ℕ) (p : Piece) → first_piece (fmap.get o.outstanding k) ≡ Some p → new ≡ first_lost_out k p o → marks' ≡ marked_for of p marks → AreTold T lanes new.outstanding new.acked marks'
   lost_stays k p first is are =
       rw (is, are) (told_stay T lanes o.outstanding o.acked marks h _ _ (marked_for of p marks) (has_for of p marks)
       (λ n l i free has was. elim was [
-        | inl out ↦ inl (still_carried o.outstanding _ k p (Told i) (shortened_is o.outstanding k p first) (not_left of p marks n i free (own n l i has)) out)
+        | inl out ↦ inl (others_stay o.outstanding _ k p (Told i) (shortened_is o.outstanding k p first) (not_left of p marks n i free (own n l i has)) out)
         | inr known ↦ inr known
       ]))
 
@@ -447,8 +346,9 @@ send_own n l = send_tell (λ i. told_by_send i ≡ Some n) n l (λ k code size h
 
 -- what was acknowledged of sending halves doesn't move what they have to tell, but for a reset
 pub told_noted : (late : Bool) (k : ℕ) (p : Piece) (o : Outgoing) (m : Records) (a : AckedItems) (marks : Tables Bool) → AreTold SendTells o.sends m a marks → AreTold SendTells (first_acked_out (acked_at late k p) o).sends m a marks
-told_noted late k (Data n c) o m a marks h = told_acked o.sends m a marks h _ n c refl
-told_noted late k (Told i) o m a marks h = each_item (λ j. AreTold SendTells (reset_noted j o.sends) m a marks) (λ v. h) (λ n v. h) (λ d v. h) (λ n code size. told_reset_acked o.sends m a marks h _ n refl) (λ n code. h) (λ v. h) (λ n v. h) (λ d v. h) i
+told_noted late k (Data n c) o m a marks h = told_calm o.sends m a marks h _ n (λ l. acked_lane l c) refl (λ l at k code size has. has) (λ l at k limit has. has)
+told_noted late k (Told (ResetStream n code size)) o m a marks h = told_calm o.sends m a marks h _ n reset_acked_lane refl (λ l at k code size has. absurd (true≢false has.2)) (λ l at k limit has. has)
+told_noted late k (Told _) o m a marks h = h
 
 -- A search
 

@@ -34,8 +34,8 @@ IsExactAt {L} {V} at Has Within m n mark None = IsNone at m n × (mark ≡ Some 
 IsExactAt {L} {V} at Has Within m n None (Some l) = ⊥
 IsExactAt {L} {V} at Has Within m n (Some b) (Some l) = IsExact at Has Within m n b l
 
-abbrev pub AreExact : {L V : Type 0} → (ℕ → V → Item) → (Has Within : L → V → Type 0) → Tables L → Records → Tables Bool → Type 0
-AreExact {L} {V} at Has Within lanes m marks = (n : ℕ) → IsExactAt at Has Within m n (lookup marks n) (lookup lanes n)
+pub record AreExact {L V : Type 0} (at : ℕ → V → Item) (Has Within : L → V → Type 0) (lanes : Tables L) (m : Records) (marks : Tables Bool) : Type 0 where
+  pub each : (n : ℕ) → IsExactAt at Has Within m n (lookup marks n) (lookup lanes n)
 
 -- the stop of a receiving half, which keeps its code (RFC 9000, section 3.5)
 abbrev pub HasStop : RecvLane → ℕ → Type 0
@@ -108,10 +108,7 @@ item_carried (MaxStreamData n m) b t = record t { limits = put_mark n b t.limits
 item_carried (StopSending n code) b t = record t { stops = put_mark n b t.stops }
 item_carried (ResetStream n code size) b t = record t { resets = put_mark n b t.resets }
 item_carried (StreamDataBlocked n m) b t = record t { blocks = put_mark n b t.blocks }
-item_carried (MaxData m) b t = t
-item_carried (MaxStreams d m) b t = t
-item_carried (DataBlocked m) b t = t
-item_carried (StreamsBlocked d m) b t = t
+item_carried _ b t = t
 
 -- whether the present item of a kind is outstanding
 abbrev pub is_carried_at : Kind → Carried → ℕ → Bool
@@ -142,12 +139,7 @@ limits_by was is n t = if is_same was is then t else put_mark n false t
 abbrev pub is_present : Item → Tables RecvLane → Tables SendLane → Bool
 is_present (MaxStreamData n m) recvs sends = is_limit (recv_limit recvs n) m
 is_present (StreamDataBlocked n m) recvs sends = is_limit (option_map (λ (l : SendLane). l.limit) (lookup sends n)) m
-is_present (MaxData m) recvs sends = true
-is_present (MaxStreams d m) recvs sends = true
-is_present (ResetStream n code size) recvs sends = true
-is_present (StopSending n code) recvs sends = true
-is_present (DataBlocked m) recvs sends = true
-is_present (StreamsBlocked d m) recvs sends = true
+is_present _ recvs sends = true
 
 -- the marks once a piece left its packet
 abbrev pub carried_without : Piece → Tables RecvLane → Tables SendLane → Carried → Carried

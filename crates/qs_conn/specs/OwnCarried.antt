@@ -17,24 +17,18 @@ Kept = List (Option ℕ)
 -- the place of an item's kind; an item of a stream has none below 6
 abbrev pub own_place : Item → ℕ
 own_place (MaxData m) = 0
-own_place (MaxStreamData n m) = 6
 own_place (MaxStreams d m) = 1 + dir_number d
-own_place (ResetStream n code size) = 6
-own_place (StopSending n code) = 6
 own_place (DataBlocked m) = 3
-own_place (StreamDataBlocked n m) = 6
 own_place (StreamsBlocked d m) = 4 + dir_number d
+own_place _ = 6
 
 -- its value
 abbrev pub own_value : Item → ℕ
 own_value (MaxData m) = m
-own_value (MaxStreamData n m) = 0
 own_value (MaxStreams d m) = m
-own_value (ResetStream n code size) = 0
-own_value (StopSending n code) = 0
 own_value (DataBlocked m) = m
-own_value (StreamDataBlocked n m) = 0
 own_value (StreamsBlocked d m) = m
+own_value _ = 0
 
 -- the present value of a kind (RFC 9000, sections 4.1 and 4.6)
 abbrev pub present_at : Limits → ℕ → ℕ

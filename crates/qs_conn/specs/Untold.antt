@@ -1,6 +1,6 @@
 -- Of private contracts.
 -- Of which halves of streams a control item may still have to be told: of one without a mark all was.
-use Rattle.std.specs.Prelude.{◌≡◌, ℕ, ◌+◌, ◌*◌, ◌<◌, Bool, true, false, ◌⊎◌, List, Option, None, Some, slice_get}
+use Rattle.std.specs.Prelude.{◌≡◌, ℕ, ◌+◌, ◌*◌, ◌<◌, Bool, true, false, ◌⊎◌, List, Option, None, Some, is_some, slice_get}
 use Rattle.qs_wire.specs.declared.stream_id.Role.{Role}
 use Rattle.qs_calls.specs.declared.settings.Settings.{Settings}
 use Rattle.qs_recv.specs.Lane.{RecvLane, is_whole, raise}
@@ -47,14 +47,11 @@ abbrev pub HasTold : {L : Type 0} → (L → Item → Type 0) → Records → Ac
 HasTold {L} Tells outstanding acked l = (i : Item) → Tells l i → IsToldIn outstanding acked i
 
 -- Each half has a place for a mark, and of one without a mark all was told.
-abbrev pub IsToldAt : {L : Type 0} → (L → Item → Type 0) → Records → AckedItems → Option Bool → Option L → Type 0
-IsToldAt {L} Tells outstanding acked mark None = Unit {0}
-IsToldAt {L} Tells outstanding acked None (Some l) = ⊥
-IsToldAt {L} Tells outstanding acked (Some true) (Some l) = Unit {0}
-IsToldAt {L} Tells outstanding acked (Some false) (Some l) = HasTold Tells outstanding acked l
+abbrev pub IsToldAt : {L : Type 0} → (L → Item → Type 0) → Records → AckedItems → Option Bool → L → Type 0
+IsToldAt {L} Tells outstanding acked mark l = (is_some mark ≡ true) × (mark ≡ Some false → HasTold Tells outstanding acked l)
 
-abbrev pub AreTold : {L : Type 0} → (ℕ → L → Item → Type 0) → Tables L → Records → AckedItems → Tables Bool → Type 0
-AreTold {L} Tells lanes outstanding acked marks = (n : ℕ) → IsToldAt (Tells n) outstanding acked (lookup marks n) (lookup lanes n)
+pub record AreTold {L : Type 0} (Tells : ℕ → L → Item → Type 0) (lanes : Tables L) (outstanding : Records) (acked : AckedItems) (marks : Tables Bool) : Type 0 where
+  pub each : (n : ℕ) (l : L) → lookup lanes n ≡ Some l → IsToldAt (Tells n) outstanding acked (lookup marks n) l
 
 -- so it is with the receiving halves of an end
 abbrev pub TellsAt : Role → Settings → ℕ → RecvLane → Item → Type 0
@@ -84,11 +81,7 @@ marked_for stream_of (Told item) marks = marked_at (stream_of item) marks
 
 -- no mark is gone, and the same halves have a place for one
 abbrev pub HasMoreAt : Option Bool → Option Bool → Type 0
-HasMoreAt None None = Unit {0}
-HasMoreAt None (Some b) = ⊥
-HasMoreAt (Some b) None = ⊥
-HasMoreAt (Some true) (Some b) = b ≡ true
-HasMoreAt (Some false) (Some b) = Unit {0}
+HasMoreAt b c = (is_some c ≡ is_some b) × (b ≡ Some true → c ≡ Some true)
 
 abbrev pub HasMore : Tables Bool → Tables Bool → Type 0
 HasMore marks new = (n : ℕ) → HasMoreAt (lookup marks n) (lookup new n)

@@ -6,7 +6,7 @@ use Rattle.qs_conn.specs.contracts.endpoint.Endpoint.{the_view}
 use Rattle.qs_machine.specs.Standing.{IsInCredit}
 use Rattle.qs_conn.proofs.Counted.{fit_broken}
 use Rattle.qs_conn.proofs.Counting.{may_recount}
-use Rattle.qs_conn.proofs.CarriedSteps.{carried_recv, broken_stop, broken_limit}
+use Rattle.qs_conn.proofs.CarriedSteps.{carried_recv, broken_keeps}
 use Rattle.qs_conn.proofs.Cores.{kept_moved, rest_recvs}
 use Rattle.qs_machine.proofs.Taken.{in_there, reset_in, reset_checked, reset_sound}
 use Rattle.qs_conn.proofs.Calm.{told_broken}
@@ -30,7 +30,7 @@ invariant_of-self c =
     (reset_sound c.args.self.now _ c.args.stream c.args.code c.args.size c.take_reset.new.self sound c.requires.passed (c.self-2.view_is ∙ c.in_ok-open_by_peer.ensures.ok) c.take_reset.ensures)
     (fit_broken _ _ _ _ _ _ _ h.core.counts _ c.args.stream _ _ _ c.is_over-was.result c.is_over-is.result c.take_reset.ensures c.is_over-was.ensures.value c.is_over-is.ensures.value (c.recount.ensures (may_recount _ _ _ _ _ _ h.core.counts.counted c.is_over-was.ensures.value c.is_over-was.ensures.few)))
     (told_broken core.limits.role core.limits.settings core.recvs core.outbox.outstanding core.outbox.acked core.untold_recvs h.core.told_in c.take_reset.new.self c.args.stream c.args.code c.args.size c.take_reset.ensures)
-    (carried_recv core.recvs core.outbox.sends core.outbox.outstanding core.carried h.core.carried c.take_reset.new.self c.args.stream (λ l. take_reset l c.args.code c.args.size) c.take_reset.ensures (λ l. broken_limit l c.args.code c.args.size) (λ l v. broken_stop l c.args.code c.args.size v)))
+    (carried_recv core.recvs core.outbox.sends core.outbox.outstanding core.carried h.core.carried c.take_reset.new.self c.args.stream (λ l. take_reset l c.args.code c.args.size) c.take_reset.ensures (λ l. broken_keeps l c.args.code c.args.size)))
 
 pub returns-clause-ok : goal.returns-clause-ok
 returns-clause-ok c =

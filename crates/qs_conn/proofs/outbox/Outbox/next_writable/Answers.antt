@@ -7,4 +7,4 @@ use Rattle.qs_machine.specs.Sums.{tables_of}
 use Rattle.qs_conn.proofs.outbox.Outbox.next_writable.Goals as goal
 
 pub returns : goal.returns
-returns c = lanes_least (HasTask tasks.Writable) MayWrite (λ s h. h) (λ s h. h) _ c.args.self.now (tables_of c.self.inside.types) c.args.from c.next_with.result c.self.view_is refl c.next_with.ensures
+returns c = lanes_least (λ n. HasTask tasks.Writable) (λ n. MayWrite) _ c.args.self.now (tables_of c.self.inside.types) c.args.from c.next_with.result c.self.view_is refl (λ n s is at h. h) (λ n s at h. h) c.next_with.ensures
