@@ -65,19 +65,20 @@ each_stop first end k e new fault answer lt is one same =
 
 -- Frames
 
+-- where the end is open, and where it is closed
+by_open : (P : Option Closed → Type 0) (c : Option Closed) → None ≡ option_map closed_fault c → P None → P c
+by_open P None is open_end = open_end
+by_open P (Some c) is open_end = absurd (none-some _ is)
+
+by_closed : (P : Option Closed → Type 0) (fault : TakeFault) (c : Option Closed) → Some fault ≡ option_map closed_fault c → ((k : Closed) → fault ≡ closed_fault k → P (Some k)) → P c
+by_closed P fault None is shut = absurd (none-some _ (sym is))
+by_closed P fault (Some c) is shut = shut c (same_Some fault (closed_fault c) is)
+
 open_take : (old new : End) (f : FrameValue) (answer : Result Taken TakeFault) → None ≡ option_map closed_fault old.closed → OpenTake f old answer new → TakeFrameStep old f answer new
-open_take old new f answer is step = go old.closed is
-  where
-    go : (c : Option Closed) → None ≡ option_map closed_fault c → TakeBy c f old answer new
-    go None at = step
-    go (Some c) at = absurd (none-some _ at)
+open_take old new f answer is step = by_open (λ c. TakeBy c f old answer new) old.closed is step
 
 pub said_again : (old : End) (f : FrameValue) (fault : TakeFault) → Some fault ≡ option_map closed_fault old.closed → TakeFrameStep old f (Err fault) old
-said_again old f fault is = go old.closed is
-  where
-    go : (c : Option Closed) → Some fault ≡ option_map closed_fault c → TakeBy c f old (Err fault) old
-    go None at = absurd (none-some _ (sym at))
-    go (Some c) at = (ap Err (same_Some fault (closed_fault c) at), refl)
+said_again old f fault is = by_closed (λ c. TakeBy c f old (Err fault) old) fault old.closed is (λ k same. (ap Err same, refl))
 
 pub passed_by : (old : End) (f : FrameValue) → None ≡ option_map closed_fault old.closed → is_ours (seen f) ≡ false → TakeFrameStep old f (Ok NotOurs) old
 passed_by old f is other = open_take old old f (Ok NotOurs) is (rw other (refl, refl))
@@ -86,30 +87,17 @@ pub is_taken : (old mid new : End) (f : FrameValue) (answer : Result Taken TakeF
 is_taken old mid new f answer is ours took after = open_take old new f answer is (rw ours (mid, took, after))
 
 pub all_said_again : (old : End) (fs : List FrameValue) (fault : TakeFault) → Some fault ≡ option_map closed_fault old.closed → TakeFramesStep old fs (Err fault) old
-all_said_again old fs fault is = go old.closed is
-  where
-    go : (c : Option Closed) → Some fault ≡ option_map closed_fault c → TakeAllBy c fs old (Err fault) old
-    go None at = absurd (none-some _ (sym at))
-    go (Some c) at = (ap Err (same_Some fault (closed_fault c) at), refl)
+all_said_again old fs fault is = by_closed (λ c. TakeAllBy c fs old (Err fault) old) fault old.closed is (λ k same. (ap Err same, refl))
 
 pub are_taken : (old mid new : End) (fs : List FrameValue) (answer : Result Taken TakeFault) → None ≡ option_map closed_fault old.closed → TakesEach fs old answer mid → new ≡ settle mid → TakeFramesStep old fs answer new
-are_taken old mid new fs answer is took after = go old.closed is
-  where
-    go : (c : Option Closed) → None ≡ option_map closed_fault c → TakeAllBy c fs old answer new
-    go None at = (mid, took, after)
-    go (Some c) at = absurd (none-some _ at)
+are_taken old mid new fs answer is took after = by_open (λ c. TakeAllBy c fs old answer new) old.closed is (mid, took, after)
 
 -- Frames so far, and those that are left
 
 -- what came of three frames
 of_three : (a b c : Taken) → of_both a (of_both b c) ≡ of_both (of_both a b) c
-of_three Took b c = refl
-of_three NotOurs b c = refl
-of_three Unchanged Took c = refl
-of_three Unchanged NotOurs c = refl
 of_three Unchanged Unchanged Took = refl
-of_three Unchanged Unchanged Unchanged = refl
-of_three Unchanged Unchanged NotOurs = refl
+of_three _ _ _ = refl
 
 pub one_more : (before one : Taken) (f : FrameValue) (fs : List FrameValue) (e mid new : End) (answer : Result Taken TakeFault) (P : Result Taken TakeFault → End → Type 0) → is_ours (seen f) ≡ true → TakesOne e f (Ok one) mid
     → ((later : Result Taken TakeFault) (last : End) → TakesEach (f ∷ fs) e later last → P (after_one before later) last) → TakesEach fs mid answer new → P (after_one (of_both before one) answer) new
@@ -133,8 +121,7 @@ none_left before e P onward = subst (λ t. P (Ok t) e) (same before) (onward (Ok
   where
     same : (t : Taken) → of_both t NotOurs ≡ t
     same Took = refl
-    same Unchanged = refl
-    same NotOurs = refl
+    same _ = refl
 
 -- One frame that has no fault
 

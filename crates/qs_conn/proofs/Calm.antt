@@ -9,7 +9,7 @@ use Rattle.qs_recv.specs.Assembled.{forget}
 use Rattle.qs_recv.specs.Lane.{RecvLane, is_whole, check_stream, take_stream, take_reset, read_answer, after_answer, after_read}
 use Rattle.qs_recv.specs.Lawful.{IsLawful}
 use Rattle.qs_recv.specs.declared.half.Read.{Read}
-use Rattle.qs_recv.specs.declared.half.Read.TheVariants.{Bytes, End, Reset, Wait}
+use Rattle.qs_recv.specs.declared.half.Read.TheVariants.{Wait}
 use Rattle.qs_recv.specs.declared.credit.Share.TheVariants.{Half}
 use Rattle.qs_send.specs.declared.piece.Item.{Item}
 use Rattle.qs_machine.specs.Tables.{Tables, lookup, updated}
@@ -46,10 +46,8 @@ read_calm : (l : RecvLane) (room w n : ℕ) (i : Item) → RecvTells w n (after_
 read_calm l room w n = go (read_answer l room)
   where
     go : (r : Read) → (i : Item) → RecvTells w n (after_answer r l room) i → RecvTells w n l i
-    go (Bytes k) = calm w n l (after_answer (Bytes k) l room) refl refl (λ is. is) (λ is. is) (λ is. is)
-    go End = calm w n l (after_answer End l room) refl refl (λ is. is) (λ is. is) (λ is. is)
-    go (Reset code) = calm w n l (after_answer (Reset code) l room) refl refl (λ is. is) (λ is. is) (λ is. is)
     go Wait = λ i has. has
+    go r = calm w n l (after_answer r l room) refl refl (λ is. is) (λ is. is) (λ is. is)
 
 module _ (r : Role) (s : Settings) (recvs : Tables RecvLane) (m : Records) (a : AckedItems) (marks : Tables Bool) (h : AreTold (TellsAt r s) recvs m a marks) (now : Tables RecvLane) (n : ℕ) where
   -- bytes came that passed the check

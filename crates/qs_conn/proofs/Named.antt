@@ -42,36 +42,26 @@ out_of_range p from r least past h =
       ];
     }
 
+-- with a range that has a number from there on, `first` the least one, the answer is the lesser of both
+with_least : (p : ℕ → Bool) (from first m : ℕ) (r : ℕ × ℕ) → first ≡ max r.0 from → m ≤ first → (from ≤ m) × ((p m || in_range r m) ≡ true) → ((n : ℕ) → from ≤ n → p n ≡ true → m ≤ n) → Least (λ n. p n || in_range r n) from (Some m)
+with_least p from first m r is le has before =
+    record {
+      found = λ n same. subst (λ k. (from ≤ k) × ((p k || in_range r k) ≡ true)) (same_Some m n same) has;
+      least = λ n ge taken. (m, refl, elim (or_cases (p n) (in_range r n) taken) [ inl old ↦ before n ge old | inr inside ↦ grind (arith, nat_tests, is, inside, ge, le) ]);
+    }
+
+at_first : (p : ℕ → Bool) (from first : ℕ) (r : ℕ × ℕ) → first ≡ max r.0 from → nat_lt r.1 first ≡ false → (from ≤ first) × ((p first || in_range r first) ≡ true)
+at_first p from first r is within = (grind (arith, is), or_right (p first) (in_range r first) (grind (arith, nat_tests, is, within)))
+
 with_other : (p : ℕ → Bool) (from first : ℕ) (r : ℕ × ℕ) (least : Option ℕ) → first ≡ max r.0 from → nat_lt r.1 first ≡ false → Least p from least → Least (λ n. p n || in_range r n) from (or_less least first)
-with_other p from first r None is within h =
-    record {
-      found = λ n same. (let eq : first ≡ n = same_Some first n same in (grind (arith, is, eq), or_right (p n) (in_range r n) (grind (arith, nat_tests, is, eq, within))));
-      least = λ n le has. (
-        first,
-        refl,
-        elim (or_cases (p n) (in_range r n) has) [
-          | inl before ↦ (let l = h.least n le before in absurd (none-some l.0 l.1))
-          | inr inside ↦ grind (arith, nat_tests, is, inside, le)
-        ],
-      );
-    }
+with_other p from first r None is within h = with_least p from first first r is (omega arith) (at_first p from first r is within) (λ n ge old. (let l = h.least n ge old in absurd (none-some l.0 l.1)))
 with_other p from first r (Some k) is within h =
-    record {
-      found = λ n same. (let eq : min k first ≡ n = same_Some (min k first) n same in subst (λ m. (from ≤ m) × ((p m || in_range r m) ≡ true)) eq (lesser (h.found k refl)));
-      least = λ n le has. (
-        min k first,
-        refl,
-        elim (or_cases (p n) (in_range r n) has) [
-          | inl before ↦ (let l = h.least n le before in let same : k ≡ l.0 = same_Some k l.0 l.1 in let less = l.2 in grind (arith, same, less))
-          | inr inside ↦ grind (arith, nat_tests, is, inside, le)
-        ],
-      );
-    }
+    with_least p from first (min k first) r is (omega arith) (lesser (h.found k refl)) (λ n ge old. (let l = h.least n ge old in let same : k ≡ l.0 = same_Some k l.0 l.1 in let less = l.2 in grind (arith, same, less)))
   where
     lesser : (from ≤ k) × (p k ≡ true) → (from ≤ min k first) × ((p (min k first) || in_range r (min k first)) ≡ true)
     lesser has = elim (cases_lt k first) [
       | inl lt ↦ (let eq : k ≡ min k first = grind (arith, lt) in subst (λ m. (from ≤ m) × ((p m || in_range r m) ≡ true)) eq (has.0, ap (λ b. b || in_range r k) has.1))
-      | inr ge ↦ (let eq : first ≡ min k first = grind (arith, ge) in subst (λ m. (from ≤ m) × ((p m || in_range r m) ≡ true)) eq (grind (arith, is), or_right (p first) (in_range r first) (grind (arith, nat_tests, is, within))))
+      | inr ge ↦ (let eq : first ≡ min k first = grind (arith, ge) in subst (λ m. (from ≤ m) × ((p m || in_range r m) ≡ true)) eq (at_first p from first r is within))
     ]
 
 range_step : (p : ℕ → Bool) (from : ℕ) (r : ℕ × ℕ) (least : Option ℕ) → Least p from least → Least (λ n. p n || in_range r n) from (with_range from r least)

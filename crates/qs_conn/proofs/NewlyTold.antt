@@ -24,7 +24,7 @@ use Rattle.qs_machine.proofs.Carried.{none_some, some_is}
 use Rattle.qs_machine.proofs.Named.{filter_nothing, filters_nothing, filter_reverse}
 use Rattle.qs_conn.specs.Runs.{held_out, acks_out, AcksBy, AcksPacket, AreSameBelow, AcksNamed, is_ahead}
 use Rattle.qs_conn.specs.NewlyTold.{gone_from, ahead_numbers, TellsAhead, TellsNamed}
-use Rattle.qs_conn.proofs.AckRuns.{numbers_ahead, begins_named, as_ahead, not_ahead, fall_less, out_is, others, others_at}
+use Rattle.qs_conn.proofs.AckRuns.{goes_below, numbers_ahead, begins_named, as_ahead, not_ahead, fall_less, out_is, others, others_at}
 use Rattle.qs_conn.proofs.Untolds.{outstanding_acked}
 
 abbrev holds : Outgoing → ℕ → Bool
@@ -155,7 +155,7 @@ tells_more R false p q k o next new (Some i) s u t early is answer fall below fu
     let lt = below.1 in
     let later = rest m (fall falls) (λ j small. same j (omega (arith, small, bound, lt)) ∙ sym (ap (λ (x : Outgoing). fmap.get x.outstanding j) acked ∙ others_at false k j o (λ e. omega (arith, e, small, bound, at)))) in
     let off : holds new k ≡ false = less.gone k (packet_gone k o next full acked) in
-    subst (λ ks. FoldsTo R s (gone_from new.outstanding ks) t) (sym (numbers_ahead false p q k o m given same))
+    subst (λ ks. FoldsTo R s (gone_from new.outstanding ks) t) (sym (numbers_ahead false p q k o m (goes_below o.outstanding p q k (Some k) refl given) same (ap is_some (same k given.named.0) ∙ given.held)))
     (subst (λ b. FoldsTo R s (cond (not b) (k ∷ gone_from new.outstanding (ahead_numbers m q)) (gone_from new.outstanding (ahead_numbers m q))) t) (sym off) (u, one, later))
 
 -- Both passes

@@ -7,24 +7,24 @@ use Rattle.qs_ranges.specs.declared.NoMemory.{NoMemory}
 use Rattle.qs_machine.specs.Memory.{ChunkMayRunOut, PieceMayRunOut}
 use Rattle.qs_machine.specs.Sums.{or_no_sending}
 use Rattle.qs_send.specs.declared.parts.Chunk.{Chunk}
-use Rattle.qs_send.specs.declared.piece.Item.TheVariants.{MaxData, MaxStreamData, MaxStreams, ResetStream, StopSending, DataBlocked, StreamDataBlocked, StreamsBlocked}
+use Rattle.qs_send.specs.declared.piece.Item.TheVariants.{ResetStream}
 use Rattle.qs_send.specs.declared.piece.Piece.{Piece}
 use Rattle.qs_send.specs.declared.piece.Piece.TheVariants.{Data, Told}
 use Rattle.qs_send.specs.Lane.{SendLane, Sending, acked_lane, reset_acked_lane, after_acked, after_lost, after_reset_acked, lost_due, state}
 use Rattle.qs_send.specs.declared.parts.SendState.{SendState}
-use Rattle.qs_send.specs.declared.parts.SendState.TheVariants.{ResetSent, ResetRecvd}
+use Rattle.qs_send.specs.declared.parts.SendState.TheVariants.{ResetSent}
 use Rattle.qs_machine.specs.Tables.{Tables, lookup, update, updated}
 use Rattle.qs_send.specs.LostRecords.{without_number}
 use Rattle.qs_machine.specs.Ends.{Records, AckedItems, LostPackets, lost_with, lost_less}
 use Rattle.qs_machine.specs.FrameStep.{without_first}
-use Rattle.qs_machine.specs.Outgoing.{Outgoing, sent_sum, lanes_of, with_pending, AreBelow, AreTied, AreSent, IsOutbox, IsSentPiece, IsOfReset, IsIdle, IsCarried, first_piece, acked_at, piece_acked_out, first_acked_out, first_lost_out, shorter, halves_acked, items_acked, halves_lost}
+use Rattle.qs_machine.specs.Outgoing.{Outgoing, sent_sum, lanes_of, with_pending, AreBelow, AreTied, AreSent, IsOutbox, IsSentPiece, IsOfReset, IsIdle, IsCarried, first_piece, acked_at, piece_acked_out, first_acked_out, first_lost_out, halves_acked, items_acked, halves_lost}
 use Rattle.qs_machine.proofs.TableLaws.{total_update}
 use Rattle.qs_machine.proofs.Carried.{none_some, some_is, IsShorter, shortened_is, first_carried, get_new}
 use Rattle.qs_machine.proofs.Tied.{tied_late, tied_reset_acked}
-use Rattle.qs_machine.proofs.LaneTables.{lookup_lanes, lane_there, half_of, lanes_updated, update_lanes}
+use Rattle.qs_machine.proofs.LaneTables.{lookup_lanes, lane_there, half_of, update_lanes}
 use Rattle.qs_machine.proofs.TablesAfter.{update_back, updated_back}
 use Rattle.qs_conn.specs.Runs.{held_out}
-use Rattle.qs_conn.proofs.Outboxes.{box_sends}
+use Rattle.qs_conn.proofs.Outboxes.{box_sends, lanes_edited, on_error}
 use Rattle.qs_machine.proofs.Ties.{ties_updated, ties_acked, ties_lost, ties_item_gone}
 
 -- No packet is in the making
@@ -50,6 +50,9 @@ none_above m k below = go (fmap.get m k) refl
 
 pub idle_after : (m : Records) (k : ℕ) (ps : List Piece) → AreBelow m k → ps ≡ [] → fmap.get (with_pending m k ps) k ≡ None
 idle_after m k ps below none = subst (λ qs. fmap.get (with_pending m k qs) k ≡ None) (sym none) (none_above m k below)
+
+pub tied_at : (t : Tables Sending) (m : Records) (r : Bool) (ps : List Piece) (next sent spare free : ℕ) → IsOutbox t m r ps next sent spare free → ps ≡ [] → AreTied t m
+tied_at t m r ps next sent spare free h none = subst (λ qs. AreTied t (with_pending m next qs)) none h.tied
 
 -- The first piece was sent
 
@@ -84,13 +87,7 @@ acked_follow t m m' k (Data n c) h short sent = at_half t m' n sent.0 (λ s. aft
 acked_follow t m m' k (Told (ResetStream n code size)) h short sent =
     let gone = ties_item_gone t m m' k (ResetStream n code size) h short in
     at_half t m' n sent.0 after_reset_acked sent.1 (ties_updated t m' n sent.0 (after_reset_acked sent.0) gone sent.1 (tied_reset_acked m' n sent.0 (gone.lanes n sent.0 sent.1)) (λ r. r)) refl
-acked_follow t m m' k (Told (MaxData x)) h short sent = (ties_item_gone t m m' k (MaxData x) h short, refl)
-acked_follow t m m' k (Told (MaxStreamData n x)) h short sent = (ties_item_gone t m m' k (MaxStreamData n x) h short, refl)
-acked_follow t m m' k (Told (MaxStreams d x)) h short sent = (ties_item_gone t m m' k (MaxStreams d x) h short, refl)
-acked_follow t m m' k (Told (StopSending n x)) h short sent = (ties_item_gone t m m' k (StopSending n x) h short, refl)
-acked_follow t m m' k (Told (DataBlocked x)) h short sent = (ties_item_gone t m m' k (DataBlocked x) h short, refl)
-acked_follow t m m' k (Told (StreamDataBlocked n x)) h short sent = (ties_item_gone t m m' k (StreamDataBlocked n x) h short, refl)
-acked_follow t m m' k (Told (StreamsBlocked d x)) h short sent = (ties_item_gone t m m' k (StreamsBlocked d x) h short, refl)
+acked_follow t m m' k (Told i) h short sent = (ties_item_gone t m m' k i h short, refl)
 
 lost_lane : (s : Sending) (c : Chunk) (b : Bool) → (cond b s (record s { due = lost_due s.lane s.due c })).lane ≡ s.lane
 lost_lane s c true = refl
@@ -122,9 +119,16 @@ short_below m m' k j p short below i has =
       | inr ne ↦ below i (ap is_some (sym (short.others i ne)) ∙ has)
     ]
 
-pub box_gone : (t t' : Tables Sending) (m m' : Records) (r r' : Bool) (ps : List Piece) (next sent spare free k : ℕ) (p : Piece) → IsOutbox t m r ps next sent spare free → ps ≡ [] → IsShorter m k p m' → Follow t t' m' → (r ≡ true → r' ≡ true)
-    → IsOutbox t' m' r' ps next sent spare free
-box_gone t t' m m' r r' ps next sent spare free k p h none short follow ready =
+pub short_at : (m m' : Records) (k : ℕ) (p : Piece) → first_piece (fmap.get m k) ≡ Some p → m' ≡ without_first m k (fmap.get m k) → IsShorter m k p m'
+short_at m m' k p first is = subst (λ (x : Records). IsShorter m k p x) (sym is) (shortened_is m k p first)
+
+-- the first piece of a packet goes, and the halves follow
+pub box_gone : (t t' : Tables Sending) (m m' : Records) (r r' : Bool) (ps : List Piece) (next sent spare free k : ℕ) (p : Piece) → IsOutbox t m r ps next sent spare free → ps ≡ [] → first_piece (fmap.get m k) ≡ Some p
+    → m' ≡ without_first m k (fmap.get m k) → (r ≡ true → r' ≡ true) → (AreTied t m → IsShorter m k p m' → IsSentPiece t p → Follow t t' m') → IsOutbox t' m' r' ps next sent spare free
+box_gone t t' m m' r r' ps next sent spare free k p h none first gone ready follows =
+    let tied = tied_at t m r ps next sent spare free h none in
+    let short = short_at m m' k p first gone in
+    let follow = follows tied short (sent_piece t m k p tied first) in
     record {
       tied = subst (λ qs. AreTied t' (with_pending m' next qs)) (sym none) follow.0;
       below = short_below m m' k next p short h.below;
@@ -134,28 +138,33 @@ box_gone t t' m m' r r' ps next sent spare free k p h none short follow ready =
       ready = λ some. ready (h.ready some);
     }
 
+pub box_acked : (t t' : Tables Sending) (m m' : Records) (r r' : Bool) (ps : List Piece) (next sent spare free k : ℕ) (p : Piece) → IsOutbox t m r ps next sent spare free → ps ≡ [] → first_piece (fmap.get m k) ≡ Some p
+    → t' ≡ halves_acked p t → m' ≡ without_first m k (fmap.get m k) → (r ≡ true → r' ≡ true) → IsOutbox t' m' r' ps next sent spare free
+box_acked t t' m m' r r' ps next sent spare free k p h none first halves gone ready =
+    box_gone t t' m m' r r' ps next sent spare free k p h none first gone ready (λ tied short was. subst (λ (x : Tables Sending). Follow t x m') (sym halves) (acked_follow t m m' k p tied short was))
+
+pub box_lost : (t t' : Tables Sending) (m m' : Records) (r r' : Bool) (ps : List Piece) (next sent spare free k : ℕ) (p : Piece) → IsOutbox t m r ps next sent spare free → ps ≡ [] → first_piece (fmap.get m k) ≡ Some p
+    → t' ≡ halves_lost p t → m' ≡ without_first m k (fmap.get m k) → (r ≡ true → r' ≡ true) → IsOutbox t' m' r' ps next sent spare free
+box_lost t t' m m' r r' ps next sent spare free k p h none first halves gone ready =
+    box_gone t t' m m' r r' ps next sent spare free k p h none first gone ready (λ tied short was. subst (λ (x : Tables Sending). Follow t x m') (sym halves) (lost_follow t m m' k p tied short was))
+
 -- Values
 
-three : (e : Outgoing) (x y : Tables SendLane) (m k : Records) (a b : AckedItems) → x ≡ y → m ≡ k → a ≡ b → ◌≡◌ {A = Outgoing} (record e { sends = x; outstanding = m; acked = a }) (record e { sends = y; outstanding = k; acked = b })
-three e x y m k a b p q r = ap (λ z. record e { sends = z; outstanding = m; acked = a }) p ∙ ap (λ z. record e { sends = y; outstanding = z; acked = a }) q ∙ ap (λ z. record e { sends = y; outstanding = k; acked = z }) r
-
-acked_in : (k : ℕ) (p : Piece) (e : Outgoing) (t t' : Tables Sending) (m' : Records) (a' : AckedItems) → e.sends ≡ lanes_of t → t' ≡ halves_acked p t → m' ≡ without_first e.outstanding k (fmap.get e.outstanding k) → a' ≡ items_acked p e.acked
-    → ◌≡◌ {A = Outgoing} (record e { sends = lanes_of t'; outstanding = m'; acked = a' }) (first_acked_out (acked_at false k p) e)
-acked_in k (Data n c) e t t' m' a' sends halves out items =
-    three e _ _ _ _ _ _ (ap lanes_of halves ∙ lanes_updated t n (λ s. after_acked s c) (λ l. acked_lane l c) (λ s there. refl) ∙ ap (λ x. updated x n (λ l. acked_lane l c) (lookup x n)) (sym sends)) out items
-acked_in k (Told (ResetStream n code size)) e t t' m' a' sends halves out items =
-    three e _ _ _ _ _ _ (ap lanes_of halves ∙ lanes_updated t n after_reset_acked reset_acked_lane (λ s there. refl) ∙ ap (λ x. updated x n reset_acked_lane (lookup x n)) (sym sends)) out items
-acked_in _ _ e _ _ _ _ sends halves out items = three e _ _ _ _ _ _ (ap lanes_of halves ∙ sym sends) out items
+piece_in : (p : Piece) (e : Outgoing) (t t' : Tables Sending) (a' : AckedItems) → e.sends ≡ lanes_of t → t' ≡ halves_acked p t → a' ≡ items_acked p e.acked → ◌≡◌ {A = Outgoing} (record e { sends = lanes_of t'; acked = a' }) (piece_acked_out p e)
+piece_in (Data n c) e t t' a' sends halves items = λ i. record e { sends = (lanes_edited e.sends t t' n (λ s. after_acked s c) (λ l. acked_lane l c) (λ s. refl) sends halves) i; acked = items i }
+piece_in (Told (ResetStream n code size)) e t t' a' sends halves items = λ i. record e { sends = (lanes_edited e.sends t t' n after_reset_acked reset_acked_lane (λ s. refl) sends halves) i; acked = items i }
+piece_in _ e _ _ _ sends halves items = λ i. record e { sends = (ap lanes_of halves ∙ sym sends) i; acked = items i }
 
 -- the records without the piece, with no packet in the making
-out_gone : (m m' : Records) (next k : ℕ) (ps : List Piece) → ps ≡ [] → m' ≡ without_first m k (fmap.get m k) → with_pending m' next ps ≡ without_first (with_pending m next ps) k (fmap.get (with_pending m next ps) k)
-out_gone m m' next k ps none is = subst (λ qs. with_pending m' next qs ≡ without_first (with_pending m next qs) k (fmap.get (with_pending m next qs) k)) (sym none) is
+out_gone : (e : Outgoing) (m m' : Records) (k : ℕ) (ps : List Piece) → e.outstanding ≡ with_pending m e.next ps → ps ≡ [] → m' ≡ without_first m k (fmap.get m k) → with_pending m' e.next ps ≡ without_first e.outstanding k (fmap.get e.outstanding k)
+out_gone e m m' k ps out none is = rw out (subst (λ qs. with_pending m' e.next qs ≡ without_first (with_pending m e.next qs) k (fmap.get (with_pending m e.next qs) k)) (sym none) is)
 
 pub acked_value : (k : ℕ) (p : Piece) (e now : Outgoing) (t t' : Tables Sending) (m m' : Records) (ps : List Piece) (a' : AckedItems) → e ≡ now → e.sends ≡ lanes_of t → e.outstanding ≡ with_pending m e.next ps → ps ≡ []
     → t' ≡ halves_acked p t → m' ≡ without_first m k (fmap.get m k) → a' ≡ items_acked p e.acked
     → ◌≡◌ {A = Outgoing} (record e { sends = lanes_of t'; outstanding = with_pending m' e.next ps; acked = a' }) (first_acked_out (acked_at false k p) now)
 acked_value k p e now t t' m m' ps a' is sends out none halves gone items =
-    acked_in k p e t t' (with_pending m' e.next ps) a' sends halves (out_gone m m' e.next k ps none gone ∙ ap (λ x. without_first x k (fmap.get x k)) (sym out)) items ∙ ap (first_acked_out (acked_at false k p)) is
+    piece_in p (record e { outstanding = with_pending m' e.next ps }) t t' a' sends halves items ∙ ap (λ (x : Records). piece_acked_out p (record e { outstanding = x })) (out_gone e m m' k ps out none gone)
+    ∙ ap (first_acked_out (acked_at false k p)) is
 
 lost_lanes : (p : Piece) (t : Tables Sending) → lanes_of (halves_lost p t) ≡ lanes_of t
 lost_lanes (Told i) t = refl
@@ -170,34 +179,19 @@ pub lost_value : (k : ℕ) (p : Piece) (e now : Outgoing) (t t' : Tables Sending
     → t' ≡ halves_lost p t → m' ≡ without_first m k (fmap.get m k) → (l : LostPackets) → l ≡ lost_with k p e.lost
     → ◌≡◌ {A = Outgoing} (record e { sends = lanes_of t'; outstanding = with_pending m' e.next ps; lost = l }) (first_lost_out k p now)
 lost_value k p e now t t' m m' ps is sends out none halves gone l more =
-    ap (λ (x : Outgoing). record x { lost = l }) (three e _ _ _ _ _ _ (ap lanes_of halves ∙ lost_lanes p t ∙ sym sends) (out_gone m m' e.next k ps none gone ∙ ap (λ x. without_first x k (fmap.get x k)) (sym out)) refl)
-    ∙ ap (λ (x : LostPackets). record (shorter k e) { lost = x }) more
-    ∙ ap (first_lost_out k p) is
+    (λ i. record e { sends = (ap lanes_of halves ∙ lost_lanes p t ∙ sym sends) i; outstanding = (out_gone e m m' k ps out none gone) i; lost = more i }) ∙ ap (first_lost_out k p) is
 
 -- the lost records, once room was made and a piece was added
 pub lost_added : (k : ℕ) (p : Piece) (m m' new : Records) (order order' last : List ℕ) → m' ≡ m → order' ≡ order → new ≡ (lost_with k p (record { pieces = m'; order = order' })).pieces → last ≡ (lost_with k p (record { pieces = m'; order = order' })).order
     → ◌≡◌ {A = LostPackets} (record { pieces = new; order = last }) (lost_with k p (record { pieces = m; order = order }))
 lost_added k p m m' new order order' last same kept pieces numbers =
-    ap (λ (x : Records). record { pieces = x; order = last }) pieces
-    ∙ ap (λ (x : List ℕ). record { pieces = (lost_with k p (record { pieces = m'; order = order' })).pieces; order = x }) numbers
-    ∙ ap (λ (x : Records). lost_with k p (record { pieces = x; order = order' })) same
-    ∙ ap (λ (x : List ℕ). lost_with k p (record { pieces = m; order = x })) kept
+    (λ i. record { pieces = pieces i; order = numbers i }) ∙ (λ i. lost_with k p (record { pieces = same i; order = kept i }))
 
 -- the lost records, once a first piece left
 pub lost_left : (k : ℕ) (m new : Records) (order last : List ℕ) → new ≡ without_first m k (fmap.get m k) → last ≡ cond (fmap.contains_key new k) order (without_number order k)
     → ◌≡◌ {A = LostPackets} (record { pieces = new; order = last }) (lost_less k (record { pieces = m; order = order }))
 lost_left k m new order last pieces numbers =
-    ap (λ (x : List ℕ). record { pieces = new; order = x }) numbers ∙ ap (λ (x : Records). record { pieces = x; order = cond (fmap.contains_key x k) order (without_number order k) }) pieces
-
-two : (e : Outgoing) (x y : Tables SendLane) (a b : AckedItems) → x ≡ y → a ≡ b → ◌≡◌ {A = Outgoing} (record e { sends = x; acked = a }) (record e { sends = y; acked = b })
-two e x y a b p r = ap (λ z. record e { sends = z; acked = a }) p ∙ ap (λ z. record e { sends = y; acked = z }) r
-
-piece_in : (p : Piece) (e : Outgoing) (t t' : Tables Sending) (a' : AckedItems) → e.sends ≡ lanes_of t → t' ≡ halves_acked p t → a' ≡ items_acked p e.acked → ◌≡◌ {A = Outgoing} (record e { sends = lanes_of t'; acked = a' }) (piece_acked_out p e)
-piece_in (Data n c) e t t' a' sends halves items =
-    two e _ _ _ _ (ap lanes_of halves ∙ lanes_updated t n (λ s. after_acked s c) (λ l. acked_lane l c) (λ s there. refl) ∙ ap (λ x. updated x n (λ l. acked_lane l c) (lookup x n)) (sym sends)) items
-piece_in (Told (ResetStream n code size)) e t t' a' sends halves items =
-    two e _ _ _ _ (ap lanes_of halves ∙ lanes_updated t n after_reset_acked reset_acked_lane (λ s there. refl) ∙ ap (λ x. updated x n reset_acked_lane (lookup x n)) (sym sends)) items
-piece_in _ e _ _ _ sends halves items = two e _ _ _ _ (ap lanes_of halves ∙ sym sends) items
+    (λ i. record { pieces = new; order = numbers i }) ∙ (λ i. record { pieces = pieces i; order = cond (fmap.contains_key (pieces i) k) order (without_number order k) })
 
 pub late_value : (k : ℕ) (p : Piece) (e now : Outgoing) (t t' : Tables Sending) (a' : AckedItems) (l : LostPackets) → e ≡ now → e.sends ≡ lanes_of t → t' ≡ halves_acked p t → a' ≡ items_acked p e.acked → l ≡ lost_less k e.lost
     → ◌≡◌ {A = Outgoing} (record e { sends = lanes_of t'; acked = a'; lost = l }) (first_acked_out (acked_at true k p) now)
@@ -219,20 +213,14 @@ not_sent_again t n s st there h is not = reset_again t n s there (by_mark s.lane
     was : is_some s.lane.was_reset ≡ true
     was = subst (λ (x : Sending). is_some x.lane.was_reset ≡ true) (some_is (lookup t n) h.0 s h.1 there) h.2
 
-    state_is : (a b : Bool) (x : SendState) → a ≡ false → b ≡ true → cond a ResetRecvd (cond b ResetSent x) ≡ ResetSent
-    state_is a b x p q = rw (p, q) refl
-
     by_mark : (b : Bool) → s.lane.reset_acked ≡ b → s.lane.reset_acked ≡ true
     by_mark true e = e
-    by_mark false e = absurd (not (is ∙ state_is s.lane.reset_acked (is_some s.lane.was_reset) _ e was))
+    by_mark false e = absurd (not (is ∙ rw (e, was) refl))
 
 -- What a call knows of the first piece
 
 pub first_at : (e now : Outgoing) (m : Records) (ps : List Piece) (k : ℕ) (p : Piece) → e ≡ now → e.outstanding ≡ with_pending m e.next ps → IsIdle now → first_piece (fmap.get now.outstanding k) ≡ Some p → first_piece (fmap.get m k) ≡ Some p
 first_at e now m ps k p is out idle first = ap (λ x. first_piece (fmap.get x k)) (idle_out e now m ps is out idle) ∙ first
-
-pub tied_at : (t : Tables Sending) (m : Records) (r : Bool) (ps : List Piece) (next sent spare free : ℕ) → IsOutbox t m r ps next sent spare free → ps ≡ [] → AreTied t m
-tied_at t m r ps next sent spare free h none = subst (λ qs. AreTied t (with_pending m next qs)) none h.tied
 
 -- a piece that is kept was sent
 pub sent_kept : (late : Bool) (e now : Outgoing) (t : Tables Sending) (m : Records) (r : Bool) (ps : List Piece) (sent spare free k : ℕ) (p : Piece) → e ≡ now → e.outstanding ≡ with_pending m e.next ps
@@ -240,28 +228,13 @@ pub sent_kept : (late : Bool) (e now : Outgoing) (t : Tables Sending) (m : Recor
 sent_kept true e now t m r ps sent spare free k p is out idle h lost first = lost p (first_in e.lost.pieces k p (subst (λ (o : Outgoing). first_piece (fmap.get o.lost.pieces k) ≡ Some p) (sym is) first))
 sent_kept false e now t m r ps sent spare free k p is out idle h lost first = sent_piece t m k p (tied_at t m r ps e.next sent spare free h (idle_none e now m ps is out idle)) (first_at e now m ps k p is out idle first)
 
-pub short_at : (m m' : Records) (k : ℕ) (p : Piece) → first_piece (fmap.get m k) ≡ Some p → m' ≡ without_first m k (fmap.get m k) → IsShorter m k p m'
-short_at m m' k p first is = subst (λ (x : Records). IsShorter m k p x) (sym is) (shortened_is m k p first)
-
-pub box_acked : (t t' : Tables Sending) (m m' : Records) (r r' : Bool) (ps : List Piece) (next sent spare free k : ℕ) (p : Piece) → IsOutbox t m r ps next sent spare free → ps ≡ [] → first_piece (fmap.get m k) ≡ Some p
-    → t' ≡ halves_acked p t → m' ≡ without_first m k (fmap.get m k) → (r ≡ true → r' ≡ true) → IsOutbox t' m' r' ps next sent spare free
-box_acked t t' m m' r r' ps next sent spare free k p h none first halves gone ready =
-    let tied = tied_at t m r ps next sent spare free h none in
-    let short = short_at m m' k p first gone in
-    box_gone t t' m m' r r' ps next sent spare free k p h none short (subst (λ (x : Tables Sending). Follow t x m') (sym halves) (acked_follow t m m' k p tied short (sent_piece t m k p tied first))) ready
-
-pub box_lost : (t t' : Tables Sending) (m m' : Records) (r r' : Bool) (ps : List Piece) (next sent spare free k : ℕ) (p : Piece) → IsOutbox t m r ps next sent spare free → ps ≡ [] → first_piece (fmap.get m k) ≡ Some p
-    → t' ≡ halves_lost p t → m' ≡ without_first m k (fmap.get m k) → (r ≡ true → r' ≡ true) → IsOutbox t' m' r' ps next sent spare free
-box_lost t t' m m' r r' ps next sent spare free k p h none first halves gone ready =
-    let tied = tied_at t m r ps next sent spare free h none in
-    let short = short_at m m' k p first gone in
-    box_gone t t' m m' r r' ps next sent spare free k p h none short (subst (λ (x : Tables Sending). Follow t x m') (sym halves) (lost_follow t m m' k p tied short (sent_piece t m k p tied first))) ready
-
 -- a chunk that was sent is of an open half, which may have asked for memory
+pub chunk_may : (t : Tables Sending) (a : AckedItems) (n : ℕ) (c : Chunk) → IsSentPiece t (Data n c) → ChunkMayRunOut (or_no_sending (lookup t n)).lane c → PieceMayRunOut (lanes_of t) a (Data n c)
+chunk_may t a n c (s, at, was) may = (s.lane, lane_there t n s at, subst (λ (o : Option Sending). ChunkMayRunOut (or_no_sending o).lane c) at may)
+
 pub chunk_asks : (r : Result (Unit {0}) NoMemory) (t : Tables Sending) (a : AckedItems) (n : ℕ) (c : Chunk) → IsSentPiece t (Data n c) → OnErr r (ChunkMayRunOut (or_no_sending (lookup t n)).lane c)
     → OnErr r (PieceMayRunOut (lanes_of t) a (Data n c))
-chunk_asks (Ok done) t a n c sent may = tt
-chunk_asks (Err e) t a n c (s, at, was) may = (s.lane, lane_there t n s at, subst (λ (o : Option Sending). ChunkMayRunOut (or_no_sending o).lane c) at may)
+chunk_asks r t a n c sent may = on_error r _ _ (chunk_may t a n c sent) may
 
 -- of an outbox, by its parts
 pub stop_asks : (r : Result (Unit {0}) NoMemory) (e now : Outgoing) (p : Piece) → e ≡ now → PieceMayRunOut e.sends e.acked p → OnErr r (PieceMayRunOut now.sends now.acked p)

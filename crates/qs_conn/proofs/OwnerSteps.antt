@@ -42,40 +42,41 @@ refusal_parts true c o says = refl
 refusal_parts false c None says = refl
 refusal_parts false c (Some l) says = refl
 
-refusal_is : (e : End) (n : ℕ) (says : SendLane → Option SendFault) → send_refusal e n says ≡ first_refusal (no_sender e n) (half_refusal (says (or_none (send_lane e n))))
-refusal_is e n says = refusal_parts (is_some e.closed) (is_some (recv_lane e n)) (send_lane e n) says
-
 refusal_half : (e : End) (n : ℕ) (says : SendLane → Option SendFault) → no_sender e n ≡ None → send_refusal e n says ≡ half_refusal (says (or_none (send_lane e n)))
-refusal_half e n says is = refusal_is e n says ∙ ap (λ o. first_refusal o (half_refusal (says (or_none (send_lane e n))))) is
+refusal_half e n says is = refusal_parts (is_some e.closed) (is_some (recv_lane e n)) (send_lane e n) says ∙ ap (λ o. first_refusal o (half_refusal (says (or_none (send_lane e n))))) is
 
-there_by : (b c : Bool) (o : Option SendLane) → first_refusal (refuse_if b Closed) (refuse_if (is_none o) (no_half c)) ≡ None → o ≡ Some (or_none o)
-there_by false c (Some l) h = refl
-there_by _ _ _ h = absurd (search (rules, h))
+there_by : {X : Type 0} (pick : Option X → X) → ((l : X) → pick (Some l) ≡ l) → (b c : Bool) (o : Option X) → first_refusal (refuse_if b Closed) (refuse_if (is_none o) (no_half c)) ≡ None → o ≡ Some (pick o)
+there_by pick is false c (Some l) h = ap Some (sym (is l))
+there_by _ _ _ _ _ h = absurd (search (rules, h))
 
 -- the half is there
 pub sender_there : (e : End) (n : ℕ) → no_sender e n ≡ None → send_lane e n ≡ Some (or_none (send_lane e n))
-sender_there e n is = there_by (is_some e.closed) (is_some (recv_lane e n)) (send_lane e n) is
+sender_there e n is = there_by or_none (λ l. refl) (is_some e.closed) (is_some (recv_lane e n)) (send_lane e n) is
 
-pub write_done : (e : End) (n : ℕ) (bytes : List ℕ) (count : ℕ) (sends : Tables SendLane) (new : End) → no_sender e n ≡ None → refusal (or_none (send_lane e n)) ≡ None
+pub write_ok : (e now : End) (n : ℕ) (bytes : List ℕ) (count : ℕ) (sends : Tables SendLane) (new : End) → e ≡ now → no_sender now n ≡ None → refusal (or_none (send_lane e n)) ≡ None
     → count ≡ accepted_by e (or_none (send_lane e n)) (length bytes) → sends ≡ updated e.sends n (λ l. write_lane l (take count bytes)) (send_lane e n)
-    → new ≡ settle (record e { sends = sends }) → WriteStep e n bytes (Ok count) new
-write_done e n bytes count sends new is free much after settled =
-    passed _ e new (Ok count) _ (refusal_half e n refusal is ∙ ap half_refusal free)
+    → new ≡ settle (record e { sends = sends }) → WriteStep now n bytes (Ok count) new
+write_ok e now n bytes count sends new is none free much after settled =
+    let there = ap (λ k. no_sender k n) is ∙ none in
+    subst (λ (k : End). WriteStep k n bytes (Ok count) new) is
+    (passed _ e new (Ok count) _ (refusal_half e n refusal there ∙ ap half_refusal free)
     (inr (
       or_none (send_lane e n),
-      sender_there e n is,
+      sender_there e n there,
       (ap Ok much, settled ∙ ap (λ t. settle (record e { sends = t })) after ∙ ap (λ k. settle (on_send n (λ m. write_lane m (take k bytes)) e)) much),
-    ))
+    )))
 
 by_fault : (e : End) (fault : SendFault) (o : Option SendFault) (Asks Effect : Type 0) → fault ≡ unwrap_or o sends.NoMemory → (fault ≡ sends.NoMemory → Asks)
     → Uncertain {A = ℕ} (half_refusal o) NoMemory Asks e (Err (use_fault fault)) e Effect
 by_fault e fault None Asks Effect is asks = inl (ap (λ f. Err (use_fault f)) is, refl, asks is)
 by_fault e fault (Some f) Asks Effect is asks = (ap (λ f. Err (use_fault f)) is, refl)
 
-pub write_refused : (e : End) (n : ℕ) (bytes : List ℕ) (fault : SendFault) → no_sender e n ≡ None → fault ≡ unwrap_or (refusal (or_none (send_lane e n))) sends.NoMemory
-    → (◌≡◌ {A = Result ℕ SendFault} (Err fault) (Err sends.NoMemory) → 0 < accepted_by e (or_none (send_lane e n)) (length bytes)) → WriteStep e n bytes (Err (use_fault fault)) e
-write_refused e n bytes fault is told asks =
-    rw (refusal_half e n refusal is) (by_fault e fault (refusal (or_none (send_lane e n))) (AsksToKeep e n bytes) _ told (λ none. (or_none (send_lane e n), sender_there e n is, asks (ap (λ f. Err f) none))))
+pub write_err : (e now : End) (n : ℕ) (bytes : List ℕ) (fault : SendFault) → e ≡ now → no_sender now n ≡ None → fault ≡ unwrap_or (refusal (or_none (send_lane e n))) sends.NoMemory
+    → (◌≡◌ {A = Result ℕ SendFault} (Err fault) (Err sends.NoMemory) → 0 < accepted_by e (or_none (send_lane e n)) (length bytes)) → WriteStep now n bytes (Err (use_fault fault)) e
+write_err e now n bytes fault is none told asks =
+    let there = ap (λ k. no_sender k n) is ∙ none in
+    subst (λ (k : End). WriteStep k n bytes (Err (use_fault fault)) e) is
+    (rw (refusal_half e n refusal there) (by_fault e fault (refusal (or_none (send_lane e n))) (AsksToKeep e n bytes) _ told (λ no_memory. (or_none (send_lane e n), sender_there e n there, asks (ap (λ f. Err f) no_memory)))))
 
 -- Receiving halves
 
@@ -88,49 +89,32 @@ recv_parts false c (Some l) = refl
 recv_refusal_is : (is_shut : Bool) (e : End) (n : ℕ) → recv_refusal is_shut e n ≡ no_receiver is_shut e n
 recv_refusal_is is_shut e n = recv_parts is_shut (is_some (send_lane e n)) (recv_lane e n)
 
-received_by : (b c : Bool) (o : Option RecvLane) → first_refusal (refuse_if b Closed) (refuse_if (is_none o) (no_half c)) ≡ None → o ≡ Some (or_new o 0 Half)
-received_by false c (Some l) h = refl
-received_by _ _ _ h = absurd (search (rules, h))
-
 pub receiver_there : (e : End) (n : ℕ) → no_receiver (is_read_no_more e) e n ≡ None → recv_lane e n ≡ Some (or_new (recv_lane e n) 0 Half)
-receiver_there e n is = received_by (is_read_no_more e) (is_some (send_lane e n)) (recv_lane e n) is
+receiver_there e n is = there_by (λ o. or_new o 0 Half) (λ l. refl) (is_read_no_more e) (is_some (send_lane e n)) (recv_lane e n) is
 
-pub stop_done : (e : End) (n code : ℕ) (recvs : Tables RecvLane) (new : End) → no_receiver (is_some e.closed) e n ≡ None → recvs ≡ updated e.recvs n (λ l. stop l code) (recv_lane e n)
-    → new ≡ settle (record e { recvs = recvs }) → StopStep e n code (Ok tt) new
-stop_done e n code recvs new is after settled =
-    passed _ e new (Ok tt) _ (recv_refusal_is (is_some e.closed) e n ∙ is) (refl, settled ∙ ap (λ t. settle (record e { recvs = t })) after)
+-- a half that is there is edited, of an end that is told in two ways
+edit_ok : (e now : End) (n : ℕ) (f : RecvLane → RecvLane) (recvs : Tables RecvLane) (new : End) → e ≡ now → no_receiver (is_some now.closed) now n ≡ None → recvs ≡ updated e.recvs n f (recv_lane e n) → new ≡ settle (record e { recvs = recvs })
+    → Certain {A = Unit {0}} (recv_refusal (is_some now.closed) now n) now (Ok tt) new ((◌≡◌ {A = Result (Unit {0}) UseFault} (Ok tt) (Ok tt)) × (new ≡ settle (on_recv n f now)))
+edit_ok e now n f recvs new is none after settled =
+    subst (λ (k : End). Certain {A = Unit {0}} (recv_refusal (is_some k.closed) k n) k (Ok tt) new ((◌≡◌ {A = Result (Unit {0}) UseFault} (Ok tt) (Ok tt)) × (new ≡ settle (on_recv n f k)))) is
+    (passed _ e new (Ok tt) _ (recv_refusal_is (is_some e.closed) e n ∙ ap (λ k. no_receiver (is_some k.closed) k n) is ∙ none) (refl, settled ∙ ap (λ t. settle (record e { recvs = t })) after))
 
-pub forget_done : (e : End) (n code : ℕ) (recvs : Tables RecvLane) (new : End) → no_receiver (is_some e.closed) e n ≡ None → recvs ≡ updated e.recvs n (λ l. stop_and_discard l code) (recv_lane e n)
-    → new ≡ settle (record e { recvs = recvs }) → StopAndDiscardStep e n code (Ok tt) new
-forget_done e n code recvs new is after settled =
-    passed _ e new (Ok tt) _ (recv_refusal_is (is_some e.closed) e n ∙ is) (refl, settled ∙ ap (λ t. settle (record e { recvs = t })) after)
+pub stop_ok : (e now : End) (n code : ℕ) (recvs : Tables RecvLane) (new : End) → e ≡ now → no_receiver (is_some now.closed) now n ≡ None → recvs ≡ updated e.recvs n (λ l. stop l code) (recv_lane e n)
+    → new ≡ settle (record e { recvs = recvs }) → StopStep now n code (Ok tt) new
+stop_ok e now n code recvs new is none after settled = edit_ok e now n (λ l. stop l code) recvs new is none after settled
 
-pub read_done : (e : End) (n size : ℕ) (answer : Read) (recvs : Tables RecvLane) (new : End) → no_receiver (is_read_no_more e) e n ≡ None → answer ≡ read_answer (or_new (recv_lane e n) 0 Half) size
-    → recvs ≡ updated e.recvs n (λ l. after_read l size) (recv_lane e n) → new ≡ settle (record e { recvs = recvs })
-    → ReadStep e n size (Ok answer) (bytes_read (or_new (recv_lane e n) 0 Half) size) new
-read_done e n size answer recvs new is told after settled =
-    rw (recv_refusal_is (is_read_no_more e) e n ∙ is)
-    (or_new (recv_lane e n) 0 Half, receiver_there e n is, ap Ok told, refl, settled ∙ ap (λ t. settle (record e { recvs = t })) after)
-
--- The same of an end that is told in two ways
-
-pub write_ok : (e now : End) (n : ℕ) (bytes : List ℕ) (count : ℕ) (sends : Tables SendLane) (new : End) → e ≡ now → no_sender now n ≡ None → refusal (or_none (send_lane e n)) ≡ None
-    → count ≡ accepted_by e (or_none (send_lane e n)) (length bytes) → sends ≡ updated e.sends n (λ l. write_lane l (take count bytes)) (send_lane e n)
-    → new ≡ settle (record e { sends = sends }) → WriteStep now n bytes (Ok count) new
-write_ok e now n bytes count sends new is none free much after settled =
-    subst (λ (k : End). WriteStep k n bytes (Ok count) new) is (write_done e n bytes count sends new (ap (λ k. no_sender k n) is ∙ none) free much after settled)
-
-pub write_err : (e now : End) (n : ℕ) (bytes : List ℕ) (fault : SendFault) → e ≡ now → no_sender now n ≡ None → fault ≡ unwrap_or (refusal (or_none (send_lane e n))) sends.NoMemory
-    → (◌≡◌ {A = Result ℕ SendFault} (Err fault) (Err sends.NoMemory) → 0 < accepted_by e (or_none (send_lane e n)) (length bytes)) → WriteStep now n bytes (Err (use_fault fault)) e
-write_err e now n bytes fault is none told asks =
-    subst (λ (k : End). WriteStep k n bytes (Err (use_fault fault)) e) is (write_refused e n bytes fault (ap (λ k. no_sender k n) is ∙ none) told asks)
+pub forget_ok : (e now : End) (n code : ℕ) (recvs : Tables RecvLane) (new : End) → e ≡ now → no_receiver (is_some now.closed) now n ≡ None → recvs ≡ updated e.recvs n (λ l. stop_and_discard l code) (recv_lane e n)
+    → new ≡ settle (record e { recvs = recvs }) → StopAndDiscardStep now n code (Ok tt) new
+forget_ok e now n code recvs new is none after settled = edit_ok e now n (λ l. stop_and_discard l code) recvs new is none after settled
 
 pub read_ok : (e now : End) (n size : ℕ) (answer : Read) (recvs : Tables RecvLane) (new : End) → e ≡ now → no_receiver (is_read_no_more now) now n ≡ None → answer ≡ read_answer (or_new (recv_lane e n) 0 Half) size
     → recvs ≡ updated e.recvs n (λ l. after_read l size) (recv_lane e n) → new ≡ settle (record e { recvs = recvs })
     → ReadStep now n size (Ok answer) (bytes_read (or_new (recv_lane e n) 0 Half) size) new
 read_ok e now n size answer recvs new is none told after settled =
+    let there = ap (λ k. no_receiver (is_read_no_more k) k n) is ∙ none in
     subst (λ (k : End). ReadStep k n size (Ok answer) (bytes_read (or_new (recv_lane e n) 0 Half) size) new) is
-    (read_done e n size answer recvs new (ap (λ k. no_receiver (is_read_no_more k) k n) is ∙ none) told after settled)
+    (rw (recv_refusal_is (is_read_no_more e) e n ∙ there)
+    (or_new (recv_lane e n) 0 Half, receiver_there e n there, ap Ok told, refl, settled ∙ ap (λ t. settle (record e { recvs = t })) after))
 
 pub read_none : (e now : End) (n size : ℕ) (new : End) → e ≡ now → no_receiver (is_read_no_more now) now n ≡ None → IsToldOfEnd (recv_lane e n) → ((t : RecvTask) → HasNone t (or_new (recv_lane e n) 0 Half)) → new ≡ settle now → ReadStep now n size (Ok Wait) [] new
 read_none e now n size new is none told quiet settled = subst (λ (k : End). ReadStep k n size (Ok Wait) [] new) is (go (recv_lane e n) refl)
@@ -149,16 +133,6 @@ read_none e now n size new is none told quiet settled = subst (λ (k : End). Rea
           sym (ap (λ a. bytes_of a l size) waiting),
           settled ∙ ap settle (sym is) ∙ ap (λ t. settle (record e { recvs = t })) (sym (updated_back e.recvs n (λ m. after_read m size) l at (ap (λ a. after_answer a l size) waiting))),
         )
-
-pub stop_ok : (e now : End) (n code : ℕ) (recvs : Tables RecvLane) (new : End) → e ≡ now → no_receiver (is_some now.closed) now n ≡ None → recvs ≡ updated e.recvs n (λ l. stop l code) (recv_lane e n)
-    → new ≡ settle (record e { recvs = recvs }) → StopStep now n code (Ok tt) new
-stop_ok e now n code recvs new is none after settled =
-    subst (λ (k : End). StopStep k n code (Ok tt) new) is (stop_done e n code recvs new (ap (λ k. no_receiver (is_some k.closed) k n) is ∙ none) after settled)
-
-pub forget_ok : (e now : End) (n code : ℕ) (recvs : Tables RecvLane) (new : End) → e ≡ now → no_receiver (is_some now.closed) now n ≡ None → recvs ≡ updated e.recvs n (λ l. stop_and_discard l code) (recv_lane e n)
-    → new ≡ settle (record e { recvs = recvs }) → StopAndDiscardStep now n code (Ok tt) new
-forget_ok e now n code recvs new is none after settled =
-    subst (λ (k : End). StopAndDiscardStep k n code (Ok tt) new) is (forget_done e n code recvs new (ap (λ k. no_receiver (is_some k.closed) k n) is ∙ none) after settled)
 
 -- Bytes that are taken without a copy
 

@@ -41,15 +41,12 @@ part_changes None None s offset n false sized fine up = go (covers s offset (off
         let last = covers-is s offset (offset + n) is (offset + n - 1) (omega (arith, some)) (omega (arith, some)) in
         absurd (omega (arith, past, some, below-end_of s (offset + n - 1) last))
 
+not_ok : (f : RecvFault) (h : Highest) → ◌≡◌ {A = Result Highest RecvFault} (Err f) (Ok h) → ⊥
+not_ok f h e = cc
+
 checked : (b c : Bool) (f g : RecvFault) (x h : Highest) → cond b (Err f) (cond c (Err g) (Ok x)) ≡ Ok h → (b ≡ false) × (x ≡ h)
 checked true c f g x h is = absurd (not_ok f h is)
-  where
-    not_ok : (f : RecvFault) (h : Highest) → ◌≡◌ {A = Result Highest RecvFault} (Err f) (Ok h) → ⊥
-    not_ok f h e = cc
 checked false true f g x h is = absurd (not_ok g h is)
-  where
-    not_ok : (f : RecvFault) (h : Highest) → ◌≡◌ {A = Result Highest RecvFault} (Err f) (Ok h) → ⊥
-    not_ok f h e = cc
 checked false false f g x h is = (refl, cc)
 
 lane_changes : (l : RecvLane) (offset n : ℕ) (fin : Bool) (h : Highest) → IsLawful l → check_stream l offset n fin ≡ Ok h → h.before < h.after → stream_changes l offset n fin ≡ true

@@ -1,8 +1,7 @@
 -- Packets in a row that carried bytes in a row: one more below, and their acknowledgement as one chunk.
-use Rattle.std.proofs.Common.{◌≡◌, ◌≢◌, ℕ, zero, suc, ◌+◌, ◌-◌, ◌/◌, ◌%◌, ◌<◌, ◌≤◌, Bool, true, false, ◌||◌, ◌&&◌, not, List, [], ◌∷◌, drop, Option, Some, None, is_some, slice_set, Result, Ok, Err, refl, sym, ap, ◌∙◌, subst, arith}
+use Rattle.std.proofs.Common.{◌≡◌, ℕ, zero, suc, ◌+◌, ◌-◌, ◌/◌, ◌%◌, ◌<◌, ◌≤◌, Bool, true, false, ◌||◌, ◌&&◌, not, List, [], ◌∷◌, drop, Option, Some, None, is_some, slice_set, Result, Ok, Err, refl, sym, ap, ◌∙◌, subst, arith}
 use Rattle.std.specs.FinMap as fmap
 use Rattle.std.specs.FinSet as set
-use Rattle.std.specs.Option.{IfSome}
 use Rattle.std.specs.Result.{OnErr}
 use Rattle.qs_ranges.specs.declared.NoMemory.{NoMemory}
 use Rattle.std.proofs.lemmas.Bool.{or_left}
@@ -17,16 +16,15 @@ use Rattle.qs_send.specs.Chunks.{WasSent}
 use Rattle.qs_send.specs.Lane.{SendLane, Sending, acked_lane, after_acked, chunk_offsets, unacked_from}
 use Rattle.qs_send.specs.Records.{without_first}
 use Rattle.qs_send.proofs.Carrying.{get_other-without_first}
-use Rattle.qs_machine.specs.Ends.{Records, AckedItems}
+use Rattle.qs_machine.specs.Ends.{Records}
 use Rattle.qs_machine.specs.Tables.{Tables, table, with_table, lookup, update, updated}
-use Rattle.qs_machine.specs.Outgoing.{Outgoing, first_acked_out, acked_at, first_piece, halves_acked, lanes_of, with_pending, AreTied, IsOutbox, IsSentPiece}
-use Rattle.qs_machine.specs.Memory.{ChunkMayRunOut, PieceMayRunOut}
+use Rattle.qs_machine.specs.Outgoing.{Outgoing, first_acked_out, acked_at, first_piece, halves_acked, lanes_of, with_pending, IsIdle, IsOutbox, IsSentPiece}
+use Rattle.qs_machine.specs.Memory.{PieceMayRunOut}
 use Rattle.qs_machine.specs.Sums.{or_no_sending}
 use Rattle.qs_machine.proofs.TableLaws.{lookup_same, table_same}
-use Rattle.qs_machine.proofs.LaneTables.{lanes_updated, lane_there}
-use Rattle.qs_conn.specs.declared.outbox.rows.Row.{Row}
-use Rattle.qs_conn.specs.Rows.{joined, IsAlone, Meets, IsRow, IsRowAt, IsRowFrom, without_row, row_acked, first_len, AcksAlone, AcksDown, AcksRow, MayRunOutAt}
-use Rattle.qs_conn.proofs.OutboxAcks.{sent_piece, box_acked}
+use Rattle.qs_conn.specs.Rows.{joined, IsAlone, Meets, IsRow, IsRowAt, without_row, row_acked, first_len, AcksDown, AcksRow, MayRunOutAt}
+use Rattle.qs_conn.proofs.Outboxes.{lanes_edited}
+use Rattle.qs_conn.proofs.OutboxAcks.{idle_none, idle_out, tied_at, sent_piece, box_acked}
 
 -- One more packet, below
 
@@ -55,9 +53,6 @@ row_stays m n first (suc more) k c lt (low, high, top, rest, meets, is) =
     (low, high, get_other-without_first m k (first + suc more) (λ e. omega (arith, e, lt)) ∙ top, row_stays m n first more k low (omega (arith, lt)) rest, meets, is)
 
 -- Two chunks that meet are acknowledged as one
-
-within_both : (a b c n : ℕ) → a ≤ b → b ≤ c → (is_within b c n || is_within a b n) ≡ is_within a c n
-within_both a b c n le ge = grind (arith, nat_tests, le, ge)
 
 union_more : (s : NumberSet) (a b : ℕ) → missing_from s 0 ≤ missing_from (set.union s (numbers a b)) 0
 union_more s a b = missing_from-more s (set.union s (numbers a b)) 0 (λ k is. contains-with_range s a b k ∙ or_left (set.contains s k) (is_within a b k) is)
@@ -151,7 +146,7 @@ module _ (n first : ℕ) where
   row_value more c e now t t' m m' ps is sends out none halves gone = (λ i. record e { sends = lanes i; outstanding = records i }) ∙ ap (row_acked n c first more) is
     where
       lanes : lanes_of t' ≡ updated e.sends n (λ l. acked_lane l c) (lookup e.sends n)
-      lanes = ap lanes_of halves ∙ lanes_updated t n (λ s. after_acked s c) (λ l. acked_lane l c) (λ s there. refl) ∙ ap (λ x. updated x n (λ l. acked_lane l c) (lookup x n)) (sym sends)
+      lanes = lanes_edited e.sends t t' n (λ s. after_acked s c) (λ l. acked_lane l c) (λ s. refl) sends halves
 
       records : with_pending m' e.next ps ≡ without_row first more e.outstanding
       records = ap (with_pending m' e.next) none ∙ gone ∙ ap (without_row first more) (sym (out ∙ ap (with_pending m e.next) none))
@@ -176,11 +171,15 @@ row_top m n first (suc more) c (low, high, top, rest, meets, is) =
 top_at : (m : Records) (n number first : ℕ) (c : Chunk) → IsRowAt m n number first c → HasTop m n number c
 top_at m n number first c h = subst (λ k. HasTop m n k c) h.count (row_top m n first h.more c h.row)
 
--- the bytes were sent
-pub row_sent : (t : Tables Sending) (m : Records) (n number first : ℕ) (c : Chunk) → AreTied t m → IsRowAt m n number first c → IsSentPiece t (Data n c)
-row_sent t m n number first c tied h =
-    let top = top_at m n number first c h in
-    let (s, at, was) = sent_piece t m number (Data n top.high) tied (ap first_piece top.alone) in
+-- what a call knows of a row: it stands in its records, and the bytes were sent
+row_here : (e now : Outgoing) (m : Records) (ps : List Piece) (n number first : ℕ) (c : Chunk) → e ≡ now → e.outstanding ≡ with_pending m e.next ps → IsIdle now → IsRowAt now.outstanding n number first c → IsRowAt m n number first c
+row_here e now m ps n number first c is out idle row = subst (λ (x : Records). IsRowAt x n number first c) (sym (idle_out e now m ps is out idle)) row
+
+pub row_sent : (e now : Outgoing) (t : Tables Sending) (m : Records) (r : Bool) (ps : List Piece) (sent spare free n number first : ℕ) (c : Chunk) → e ≡ now → e.outstanding ≡ with_pending m e.next ps → IsIdle now → IsOutbox t m r ps e.next sent spare free
+    → IsRowAt now.outstanding n number first c → IsSentPiece t (Data n c)
+row_sent e now t m r ps sent spare free n number first c is out idle h row =
+    let top = top_at m n number first c (row_here e now m ps n number first c is out idle row) in
+    let (s, at, was) = sent_piece t m number (Data n top.high) (tied_at t m r ps e.next sent spare free h (idle_none e now m ps is out idle)) (ap first_piece top.alone) in
     let end = top.end in
     let sent = was.offsets in
     (s, at, record { offsets = omega (arith, end, sent); end = λ f. was.end (sym top.fin ∙ f) })
@@ -202,18 +201,17 @@ half_there t n c (s, at, was) = ap is_some at
 pub half_sent : (t : Tables Sending) (n : ℕ) (c : Chunk) → IsSentPiece t (Data n c) → WasSent (or_no_sending (lookup t n)).lane c
 half_sent t n c (s, at, was) = subst (λ (o : Option Sending). WasSent (or_no_sending o).lane c) (sym at) was
 
-pub chunk_may : (t : Tables Sending) (a : AckedItems) (n : ℕ) (c : Chunk) → IsSentPiece t (Data n c) → ChunkMayRunOut (or_no_sending (lookup t n)).lane c → PieceMayRunOut (lanes_of t) a (Data n c)
-chunk_may t a n c (s, at, was) may = (s.lane, lane_there t n s at, subst (λ (o : Option Sending). ChunkMayRunOut (or_no_sending o).lane c) at may)
-
 -- What an outbox is then
 
-pub box_rowed : (n number first : ℕ) (c : Chunk) (t t' : Tables Sending) (m m' : Records) (r r' : Bool) (ps : List Piece) (next sent spare free : ℕ) → IsOutbox t m r ps next sent spare free → ps ≡ [] → IsRowAt m n number first c
-    → t' ≡ halves_acked (Data n c) t → m' ≡ without_row first (number - first) m → (r ≡ true → r' ≡ true) → IsOutbox t' m' r' ps next sent spare free
-box_rowed n number first c t t' m m' r r' ps next sent spare free h none row halves gone ready =
-    let is = row.count in
-    let count : number - first ≡ row.more = omega (arith, is) in
-    subst (λ (x : Tables Sending). IsOutbox x m' r' ps next sent spare free) (sym halves)
-    (subst (λ (x : Records). IsOutbox (halves_acked (Data n c) t) x r' ps next sent spare free) (sym (gone ∙ ap (λ j. without_row first j m) count)) (box_row n first row.more c t m r r' ps next sent spare free h none row.row ready))
+pub box_rowed : (e now : Outgoing) (n number first : ℕ) (c : Chunk) (t t' : Tables Sending) (m m' : Records) (r r' : Bool) (ps : List Piece) (sent spare free : ℕ) → e ≡ now → e.outstanding ≡ with_pending m e.next ps → IsIdle now
+    → IsOutbox t m r ps e.next sent spare free → IsRowAt now.outstanding n number first c → t' ≡ halves_acked (Data n c) t → m' ≡ without_row first (number - first) m → (r ≡ true → r' ≡ true) → IsOutbox t' m' r' ps e.next sent spare free
+box_rowed e now n number first c t t' m m' r r' ps sent spare free is out idle h there halves gone ready =
+    let row = row_here e now m ps n number first c is out idle there in
+    let sum = row.count in
+    let count : number - first ≡ row.more = omega (arith, sum) in
+    subst (λ (x : Tables Sending). IsOutbox x m' r' ps e.next sent spare free) (sym halves)
+    (subst (λ (x : Records). IsOutbox (halves_acked (Data n c) t) x r' ps e.next sent spare free) (sym (gone ∙ ap (λ j. without_row first j m) count))
+    (box_row n first row.more c t m r r' ps e.next sent spare free h (idle_none e now m ps is out idle) row.row ready))
 
 pub row_acks : (n number first : ℕ) (c : Chunk) (e now : Outgoing) (t t' : Tables Sending) (m m' : Records) (ps : List Piece) → e ≡ now → e.sends ≡ lanes_of t → e.outstanding ≡ with_pending m e.next ps → ps ≡ [] → IsRowAt now.outstanding n number first c
     → t' ≡ halves_acked (Data n c) t → m' ≡ without_row first (number - first) m → AcksRow n number first now (record e { sends = lanes_of t'; outstanding = with_pending m' e.next ps })
@@ -223,8 +221,7 @@ row_acks n number first c e now t t' m m' ps is sends out none row halves gone =
     (row.more, row.count, subst (λ x. AcksDown n first row.more now x) (sym (row_value n first row.more c e now t t' m m' ps is sends out none halves (gone ∙ ap (λ j. without_row first j m) count))) (row_down n first row.more c now row.row))
 
 pub row_lanes : (n : ℕ) (c : Chunk) (e now : Outgoing) (t t' : Tables Sending) → e ≡ now → e.sends ≡ lanes_of t → t' ≡ halves_acked (Data n c) t → lanes_of t' ≡ updated now.sends n (λ l. acked_lane l c) (lookup now.sends n)
-row_lanes n c e now t t' is sends halves =
-    ap lanes_of halves ∙ lanes_updated t n (λ s. after_acked s c) (λ l. acked_lane l c) (λ s there. refl) ∙ ap (λ x. updated x n (λ l. acked_lane l c) (lookup x n)) (sym sends ∙ ap (λ (o : Outgoing). o.sends) is)
+row_lanes n c e now t t' is sends halves = lanes_edited now.sends t t' n (λ s. after_acked s c) (λ l. acked_lane l c) (λ s. refl) (ap (λ (o : Outgoing). o.sends) (sym is) ∙ sends) halves
 
 -- Loops over rows
 
@@ -247,7 +244,3 @@ row_longer m n number first c longer pos h (low, alone, meets, is) =
       row = subst (λ x. IsRow m n (first - 1) (suc h.more) x) (sym is) (row_grows m n (first - 1) h.more low c (subst (λ k. IsRow m n k h.more c) e h.row) alone meets);
       some = h.some;
     }
-
-pub alone_by : (o : Option Row) (m : Records) (p : Piece) (number : ℕ) → fmap.get m number ≡ Some (p ∷ []) → IfSome o (λ r. p ≡ Data r.stream r.chunk) → IfSome o (λ r. IsAlone m number r.stream r.chunk)
-alone_by None m p number alone is = is
-alone_by (Some r) m p number alone is = alone ∙ ap (λ q. Some (q ∷ [])) is

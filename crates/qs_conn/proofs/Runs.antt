@@ -21,26 +21,30 @@ use Rattle.qs_machine.proofs.Carried.{none_some, some_is, get_new, get_removed}
 -- Losses
 
 -- the first piece stands before those that are left
-pieces_first : (m : Records) (k : ℕ) (p : Piece) → first_piece (fmap.get m k) ≡ Some p → pieces_in m k ≡ p ∷ pieces_in (without_first m k (fmap.get m k)) k
+pub pieces_first : (m : Records) (k : ℕ) (p : Piece) → first_piece (fmap.get m k) ≡ Some p → pieces_in m k ≡ p ∷ pieces_in (without_first m k (fmap.get m k)) k
 pieces_first m k p first = go (fmap.get m k) first
   where
     listed : Option (List Piece) → List Piece
     listed x = elim x [ None ↦ [] | Some ps ↦ ps ]
 
     go : (x : Option (List Piece)) → first_piece x ≡ Some p → ◌≡◌ {A = List Piece} (elim x [ None ↦ [] | Some ps ↦ ps ]) (p ∷ pieces_in (without_first m k x) k)
-    go None f = absurd (none_some p f)
-    go (Some []) f = absurd (none_some p f)
     go (Some (q ∷ [])) f = ap (λ x. x ∷ []) (some_is (Some q) q p refl f) ∙ ap (λ xs. p ∷ xs) (sym (ap listed (get_removed m k)))
     go (Some (q ∷ r ∷ rs)) f = ap (λ x. x ∷ r ∷ rs) (some_is (Some q) q p refl f) ∙ ap (λ xs. p ∷ xs) (sym (ap listed (get_new m k (r ∷ rs))))
+    go _ f = absurd (none_some p f)
+
+pub pieces_none : (m : Records) (k : ℕ) → first_piece (fmap.get m k) ≡ None → pieces_in m k ≡ []
+pieces_none m k first = go (fmap.get m k) first
+  where
+    go : (x : Option (List Piece)) → first_piece x ≡ None → ◌≡◌ {A = List Piece} (elim x [ None ↦ [] | Some ps ↦ ps ]) []
+    go (Some (p ∷ ps)) e = absurd (none_some p (sym e))
+    go _ e = refl
+
+pub less_left : (m : Records) (k : ℕ) (p : Piece) → first_piece (fmap.get m k) ≡ Some p → length (pieces_in (without_first m k (fmap.get m k)) k) < length (pieces_in m k)
+less_left m k p first = let e = ap length (pieces_first m k p first) in omega (arith, e)
 
 pub loses_end : (k : ℕ) (o : Outgoing) → first_piece (fmap.get o.outstanding k) ≡ None → Loses k o (Ok tt) o
 unfolding Loses losses_out
-loses_end k o first = go (fmap.get o.outstanding k) first
-  where
-    go : (x : Option (List Piece)) → first_piece x ≡ None → o ≡ losses_out k (elim x [ None ↦ [] | Some ps ↦ ps ]) o
-    go None e = refl
-    go (Some []) e = refl
-    go (Some (p ∷ ps)) e = absurd (none_some p (sym e))
+loses_end k o first = ap (λ ps. losses_out k ps o) (sym (pieces_none o.outstanding k first))
 
 pub loses_stop : (k : ℕ) (o new : Outgoing) (p : Piece) (e : NoMemory) → first_piece (fmap.get o.outstanding k) ≡ Some p → new ≡ o → Loses k o (Err e) new
 unfolding Loses losses_out
@@ -56,18 +60,6 @@ unfolding Loses
 loses_more k o next new p result first is h =
     subst (λ ps. LosesBy k ps o result new) (sym (pieces_first o.outstanding k p first))
     (loses_cons k p (pieces_in (without_first o.outstanding k (fmap.get o.outstanding k)) k) o new result (subst (λ (x : Outgoing). LosesBy k (pieces_in x.outstanding k) x result new) is h))
-
-pub less_left : (m : Records) (k : ℕ) (p : Piece) → first_piece (fmap.get m k) ≡ Some p → length (pieces_in (without_first m k (fmap.get m k)) k) < length (pieces_in m k)
-less_left m k p first = go (fmap.get m k) first
-  where
-    size : Option (List Piece) → ℕ
-    size x = length (elim x as (λ _. List Piece) [ None ↦ [] | Some ps ↦ ps ])
-
-    go : (x : Option (List Piece)) → first_piece x ≡ Some p → length (pieces_in (without_first m k x) k) < length (elim x as (λ _. List Piece) [ None ↦ [] | Some ps ↦ ps ])
-    go None f = absurd (none_some p f)
-    go (Some []) f = absurd (none_some p f)
-    go (Some (q ∷ [])) f = (let e = ap size (get_removed m k) in omega (arith, e))
-    go (Some (q ∷ r ∷ rs)) f = (let e = ap size (get_new m k (r ∷ rs)) in omega (arith, e))
 
 pub loses_less : (k : ℕ) (o next : Outgoing) (p : Piece) → first_piece (fmap.get o.outstanding k) ≡ Some p → next ≡ first_lost_out k p o → pieces_left false k next < pieces_left false k o
 unfolding pieces_left
@@ -115,47 +107,32 @@ losses_view k (p ∷ ps) o e = losses_view k ps (first_lost_out k p o) e
 same_pieces : (e : End) (o : Outgoing) (k : ℕ) (ps : List Piece) → fmap.get e.outstanding k ≡ Some ps → e ≡ with_outgoing o e → pieces_in o.outstanding k ≡ ps
 same_pieces e o k ps is same = ap (λ (x : Option (List Piece)). elim x as (λ _. List Piece) [ None ↦ [] | Some qs ↦ qs ]) (ap (λ (x : End). fmap.get x.outstanding k) (sym same) ∙ is)
 
-lost_whole : (e : End) (o new : Outgoing) (k : ℕ) → None ≡ lose_refusal e k → e ≡ with_outgoing o e → Loses k o (Ok tt) new → LoseStep e k (Ok tt) (with_outgoing new e)
-unfolding Loses
-lost_whole e o new k free same h =
-    let at = there e k free in
-    rw (← free) (
-      at.0,
-      at.1,
-      inl (
-        refl,
-        ap (λ (x : Outgoing). with_outgoing x e) h ∙ losses_view k (pieces_in o.outstanding k) o e ∙ ap (λ (x : End). losses k (pieces_in o.outstanding k) x) (sym same) ∙ ap (λ ps. losses k ps e) (same_pieces e o k at.0 at.1 same),
-      ),
-    )
-
-lost_part : (e : End) (o new : Outgoing) (k : ℕ) (refused : NoMemory) → None ≡ lose_refusal e k → e ≡ with_outgoing o e → Loses k o (Err refused) new → LoseStep e k (Err losing.NoMemory) (with_outgoing new e)
-unfolding Loses
-lost_part e o new k refused free same h =
-    let at = there e k free in
-    let listed = same_pieces e o k at.0 at.1 same in
-    rw (← free) (
-      at.0,
-      at.1,
-      inr (
-        h.0,
-        subst (λ (ps : List Piece). h.0 < length ps) listed h.1,
-        refl,
-        ap (λ (x : Outgoing). with_outgoing x e) h.2 ∙ losses_view k (take h.0 (pieces_in o.outstanding k)) o e ∙ ap (λ (x : End). losses k (take h.0 (pieces_in o.outstanding k)) x) (sym same) ∙ ap (λ (ps : List Piece). losses k (take h.0 ps) e) listed,
-      ),
-    )
+-- what came of the loop, as an end
+came : (k : ℕ) (ps : List Piece) (o new : Outgoing) (v : End) → v ≡ with_outgoing o v → new ≡ losses_out k ps o → with_outgoing new v ≡ losses k ps v
+came k ps o new v same is = ap (λ (x : Outgoing). with_outgoing x v) is ∙ losses_view k ps o v ∙ ap (losses k ps) (sym same)
 
 -- what a call answers, by what came of its loop
 pub lost_ok : (v e : End) (o new : Outgoing) (k : ℕ) (r : Result (Unit {0}) NoMemory) (answer : Result (Unit {0}) LostFault) → v ≡ e → v ≡ with_outgoing o v → None ≡ lose_refusal e k → r ≡ Ok tt → answer ≡ Ok tt → Loses k o r new
     → LoseStep e k answer (with_outgoing new v)
+unfolding Loses
 lost_ok v e o new k r answer is same free done said h =
+    let open_end = subst (λ (x : End). None ≡ lose_refusal x k) (sym is) free in
+    let (ps, at) = there v k open_end in
+    let all : LosesBy k (pieces_in o.outstanding k) o (Ok tt) new = rw done at h in
     subst (λ (x : End). LoseStep x k answer (with_outgoing new v)) is
-    (subst (λ (x : Result (Unit {0}) LostFault). LoseStep v k x (with_outgoing new v)) (sym said) (lost_whole v o new k (subst (λ (x : End). None ≡ lose_refusal x k) (sym is) free) same (subst (λ (x : Result (Unit {0}) NoMemory). Loses k o x new) done h)))
+    (rw (← open_end) (ps, at, inl (said, came k (pieces_in o.outstanding k) o new v same all ∙ ap (λ (qs : List Piece). losses k qs v) (same_pieces v o k ps at same))))
 
 pub lost_err : (v e : End) (o new : Outgoing) (k : ℕ) (r : Result (Unit {0}) NoMemory) (refused : NoMemory) (answer : Result (Unit {0}) LostFault) → v ≡ e → v ≡ with_outgoing o v → None ≡ lose_refusal e k → r ≡ Err refused → answer ≡ Err losing.NoMemory
     → Loses k o r new → LoseStep e k answer (with_outgoing new v)
+unfolding Loses
 lost_err v e o new k r refused answer is same free done said h =
+    let open_end = subst (λ (x : End). None ≡ lose_refusal x k) (sym is) free in
+    let (ps, at) = there v k open_end in
+    let listed = same_pieces v o k ps at same in
+    let some : LosesBy k (pieces_in o.outstanding k) o (Err refused) new = rw done at h in
+    let (moved, few, after) = some in
     subst (λ (x : End). LoseStep x k answer (with_outgoing new v)) is
-    (subst (λ (x : Result (Unit {0}) LostFault). LoseStep v k x (with_outgoing new v)) (sym said) (lost_part v o new k refused (subst (λ (x : End). None ≡ lose_refusal x k) (sym is) free) same (subst (λ (x : Result (Unit {0}) NoMemory). Loses k o x new) done h)))
+    (rw (← open_end) (ps, at, inr (moved, subst (λ (qs : List Piece). moved < length qs) listed few, said, came k (take moved (pieces_in o.outstanding k)) o new v same after ∙ ap (λ (qs : List Piece). losses k (take moved qs) v) listed)))
 
 -- No packet is in the making
 

@@ -1,14 +1,15 @@
--- Flags as bits of words: one word, and a list of them.
-use Rattle.std.proofs.Common.{◌≡◌, ◌≢◌, ℕ, ◌+◌, ◌-◌, ◌*◌, ◌/◌, ◌%◌, ◌^◌, ◌<◌, ◌≤◌, ◌==◌, Bool, true, false, List, [], ◌∷◌, ◌++◌, length, get_or, set, take, replicate, suc, bit_and, sym, ap, ◌∙◌, refl, inl, inr, arith}
+-- Flags as bits of words: one word, a list of them, and a search.
+use Rattle.std.proofs.Common.{◌≡◌, ◌≢◌, ℕ, ◌+◌, ◌-◌, ◌*◌, ◌/◌, ◌%◌, ◌^◌, ◌<◌, ◌≤◌, ◌==◌, Bool, true, false, List, [], ◌∷◌, ◌++◌, length, get_or, set, take, replicate, suc, bit_and, sym, ap, ◌∙◌, refl, inl, inr, arith, Option, None, Some, subst}
 use Rattle.std.specs.Int.{bit_at}
 use Rattle.std.proofs.lemmas.Bool.{cases_lt, cases_eq, both_ways}
 use Rattle.std.proofs.lemmas.List.{length-append, length-replicate, length-set, length-take, get_or-set_same, get_or-set_other, get_or-take, get_or_past, get_or_read, take_all, append-nil, ext_get_or}
 use Rattle.std.proofs.lemmas.List.FromFn.{length-map-range_with_len, get_or-map-range_with_len}
 use Rattle.std.proofs.lemmas.Nat.{one_shl}
 use Rattle.std.proofs.lemmas.Nat.Bits.{bit_at-zero, bit_at_and, bit_at_ones, bit_at_ones_above, bit_at-lt}
-use Rattle.qs_ranges.specs.Bits.{HasBit}
-use Rattle.qs_conn.specs.Marks.{is_marked, HasNoMark, HasAllMarks}
+use Rattle.qs_ranges.specs.Bits.{HasBit, IsBefore, IsLowestBit}
+use Rattle.qs_conn.specs.Marks.{is_marked, HasNoMark, HasAllMarks, IsNextMark, AreSummed}
 use Rattle.qs_conn.specs.Words.{flag, flags, AreFlags, IsCutAt, IsWordOf}
+use Rattle.std.proofs.lemmas.Option.{none-some, same_Some}
 
 pub bits_cut : (word bit : ℕ) → bit < 64 → IsCutAt word bit (bit_and word (1 * 2 ^ bit % 2 ^ 64 - 1))
 bits_cut word bit small =
@@ -68,22 +69,22 @@ none_closed ws count to marks is le = sym (take_all to marks (omega (arith, le, 
 flag_added : (ws : List ℕ) (n i : ℕ) → length ws ≤ n → flag (take n ws ++ replicate (n - length ws) 0) i ≡ flag ws i
 flag_added ws n i le = rw (take_all n ws le, padded ws (n - length ws) (i / 64) 0) refl
 
--- the words have room for more flags
-pub flags_room : (ws : List ℕ) (count to : ℕ) → AreFlags ws count → count < to → flags ws to ≡ flags ws count ++ replicate (to - length (flags ws count)) false
-flags_room ws count to are more =
-    flags_are ws to (flags ws count ++ replicate (to - length (flags ws count)) false)
+-- more flags of words that have the same ones
+more_flags : (ws now : List ℕ) (count to : ℕ) → AreFlags ws count → count < to → ((i : ℕ) → flag now i ≡ flag ws i) → flags now to ≡ flags ws count ++ replicate (to - length (flags ws count)) false
+more_flags ws now count to are more same =
+    flags_are now to (flags ws count ++ replicate (to - length (flags ws count)) false)
     (omega (arith, more, flags_len ws count, length-append (flags ws count) (replicate (to - length (flags ws count)) false), length-replicate (to - length (flags ws count)) false))
-    (λ i lt. padded (flags ws count) (to - length (flags ws count)) i false ∙ marked_is ws count i are)
+    (λ i lt. padded (flags ws count) (to - length (flags ws count)) i false ∙ marked_is ws count i are ∙ sym (same i))
+
+pub flags_room : (ws : List ℕ) (count to : ℕ) → AreFlags ws count → count < to → flags ws to ≡ flags ws count ++ replicate (to - length (flags ws count)) false
+flags_room ws count to are more = more_flags ws ws count to are more (λ i. refl)
 
 module _ (ws now : List ℕ) (count to n len : ℕ) (are : AreFlags ws count) (more : count < to) (le : length ws ≤ n) (is_len : len ≡ length ws) (is : now ≡ take n ws ++ replicate (n - len) 0) where
   flag_opened : (i : ℕ) → flag now i ≡ flag ws i
   flag_opened i = rw (is, is_len) (flag_added ws n i le)
 
   pub flags_opened : flags now to ≡ flags ws count ++ replicate (to - length (flags ws count)) false
-  flags_opened =
-      flags_are now to (flags ws count ++ replicate (to - length (flags ws count)) false)
-      (omega (arith, more, flags_len ws count, length-append (flags ws count) (replicate (to - length (flags ws count)) false), length-replicate (to - length (flags ws count)) false))
-      (λ i lt. padded (flags ws count) (to - length (flags ws count)) i false ∙ marked_is ws count i are ∙ sym (flag_opened i))
+  flags_opened = more_flags ws now count to are more flag_opened
 
   pub flags_grown : to < 2 ^ 64 → to ≤ 64 * n → 64 * n ≤ to + 64 → AreFlags now to
   flags_grown fits room tight = record { room = omega (arith, room, size); tight = omega (arith, tight, size); fits = fits; unset = λ i ge. flag_opened i ∙ are.unset i (omega (arith, more, ge)) }
@@ -199,3 +200,64 @@ marked_below marks i is =
       | inl lt ↦ lt
       | inr ge ↦ absurd (both_ways (is_marked marks i) (get_or_past marks i false ge) is)
     ]
+
+-- A search by words: what is passed, and what is found
+
+-- no index from one on, below a bit of a word, is marked
+pub record IsClearTo (marks : List Bool) (from place bit : ℕ) : Type 0 where
+  pub few : bit < 64
+  pub after : from ≤ place * 64 + bit
+  pub none : (i : ℕ) → from ≤ i → i < place * 64 + bit → is_marked marks i ≡ false
+
+pub clear_here : (marks : List Bool) (from : ℕ) → IsClearTo marks from (from / 64) (from % 64)
+clear_here marks from = record { few = omega arith; after = omega arith; none = λ i le lt. absurd (omega (arith, le, lt)) }
+
+module _ (marks : List Bool) (from place bit : ℕ) (clear : IsClearTo marks from place bit) where
+  pub none_past : (words : ℕ) → length marks ≤ 64 * words → words ≤ place → IsNextMark marks from None
+  none_past words within past =
+      record {
+        found = λ n is. absurd (none-some n is);
+        unmarked = λ i le before. elim (cases_lt i (place * 64 + bit)) [ inl lt ↦ clear.none i le lt | inr ge ↦ get_or_past marks i false (omega (arith, ge, past, within)) ];
+      }
+
+  module _ (word : ℕ) (of : IsWordOf marks place word) where
+    -- below the lowest bit that is set
+    before_lowest : (answer : Option ℕ) → IsLowestBit word bit answer → (i : ℕ) → from ≤ i → i < place * 64 + 64 → (place * 64 ≤ i → IsBefore (i % 64) answer) → is_marked marks i ≡ false
+    before_lowest answer lowest i le lt before =
+        elim (cases_lt i (place * 64 + bit)) [
+          | inl below ↦ clear.none i le below
+          | inr ge ↦
+              let unset : bit_at word (i % 64) ≡ 0 = lowest.clear (i % 64) (omega (arith, ge, lt)) (omega arith) (before (omega (arith, ge))) in
+              let here : place * 64 + i % 64 ≡ i = omega (arith, ge, lt) in
+              subst (λ j. is_marked marks j ≡ false) here (sym (of.bits (i % 64) (omega arith)) ∙ ap (λ b. b == 1) unset)
+        ]
+
+    pub passed : IsLowestBit word bit None → IsClearTo marks from (place + 1) 0
+    passed lowest =
+        record {
+          few = omega arith;
+          after = omega (arith, clear.few, clear.after);
+          none = λ i le lt. before_lowest None lowest i le (omega (arith, lt)) (λ from_here. tt);
+        }
+
+    -- and the words behind that one, as far as they have no flag
+    pub summed : (words : List Bool) (next : ℕ) → AreSummed marks words → place + 1 ≤ next → ((w : ℕ) → place + 1 ≤ w → w < next → is_marked words w ≡ false) → IsLowestBit word bit None → IsClearTo marks from next 0
+    summed words next are le none lowest =
+        record {
+          few = omega arith;
+          after = omega (arith, clear.few, clear.after, le);
+          none = λ i ge lt. elim (cases_lt i (place * 64 + 64)) [
+            | inl here ↦ before_lowest None lowest i ge here (λ from_here. tt)
+            | inr past ↦ are.none (i / 64) (none (i / 64) (omega (arith, past)) (omega (arith, lt))) i refl
+          ];
+        }
+
+    pub found : (marked : ℕ) → IsLowestBit word bit (Some marked) → IsNextMark marks from (Some (place * 64 + marked))
+    found marked lowest =
+        let low = lowest.found marked refl in
+        record {
+          found = λ n is.
+              subst (λ m. (from ≤ m) × (is_marked marks m ≡ true)) (same_Some (place * 64 + marked) n is)
+              (omega (arith, clear.after, low.0), sym (of.bits marked low.1) ∙ ap (λ b. b == 1) low.2);
+          unmarked = λ i le before. before_lowest (Some marked) lowest i le (omega (arith, before, low.1)) (λ from_here. omega (arith, before, from_here));
+        }

@@ -3,7 +3,7 @@
 --     joined low high      the bytes of two chunks, of which the first ends where the other one begins
 --     IsRow m n first more c      such packets, from number `first` on and so many more, of stream n, and all their bytes
 --     AcksRow n number first o new      they are acknowledged one after the other, from the highest number down
-use Rattle.std.specs.Prelude.{◌≡◌, ℕ, zero, suc, ◌+◌, ◌<◌, ◌≤◌, false, Bool, List, [], ◌∷◌, Option, Some, ◌⊎◌, Result, Ok, Err}
+use Rattle.std.specs.Prelude.{◌≡◌, ℕ, zero, suc, ◌+◌, ◌<◌, ◌≤◌, false, Bool, List, [], ◌∷◌, Option, Some, ◌⊎◌, Ok}
 use Rattle.std.specs.FinMap as fmap
 use Rattle.qs_send.specs.declared.parts.Chunk.{Chunk}
 use Rattle.qs_send.specs.declared.piece.Piece.{Piece}
@@ -73,7 +73,8 @@ MayRunOutAt number n o = (high : Chunk) × IsAlone o.outstanding number n high �
 
 -- the packets from a number down to another one are acknowledged: that packet alone, or a row that isn't below a bound
 abbrev pub AcksFrom : Bool → ℕ → ℕ → ℕ → Outgoing → Outgoing → Type 0
-AcksFrom late number low first o new = ((first ≡ number) × AcksPacket late number o (Ok tt) new) ⊎ ((late ≡ false) × (first < number → low ≤ first) × (n : ℕ) × AcksRow n number first o new)
+AcksFrom late number low first o new =
+    ((first ≡ number) × AcksPacket late number o (Ok tt) new) ⊎ ((late ≡ false) × (low ≤ first) × (n : ℕ) × (more : ℕ) × (first + suc more ≡ number) × AcksDown n first (suc more) o new)
 
 -- the numbers of such packets, from the highest down
 abbrev pub numbers_down : ℕ → ℕ → List ℕ

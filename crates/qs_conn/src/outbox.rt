@@ -220,7 +220,7 @@ impl Outbox {
         kept as u64
     }
 
-    #[tactic(auto, using(crate::proofs::Rooms::of_lanes))]
+    #[tactic(auto, using(crate::proofs::Helds::of_lanes))]
     pub(crate) fn held(&self) -> u64
         ensures { IsSumOf (IsSumOf IsBuffer) (lists self.now.sends) result }
     {

@@ -416,7 +416,7 @@ impl RecvTables {
         )
     }
 
-    #[tactic(auto, using(crate::proofs::Rooms::lists_are))]
+    #[tactic(auto, using(crate::proofs::Helds::lists_are))]
     pub(crate) fn held(&self) -> u64
         ensures { IsSumOf (IsSumOf IsRoom) (lists self.now) result }
     {

@@ -44,7 +44,7 @@ impl Endpoint {
     }
 
     /// Returns each stream that the peer opened, once: bidirectional ones first, lower numbers first.
-    #[tactic(auto, using(crate::proofs::Accepting::bidi_given, crate::proofs::Accepting::uni_given))]
+    #[tactic(auto, using(crate::proofs::Asked::bidi_given, crate::proofs::Asked::uni_given))]
     pub fn accept(&mut self) -> Option<StreamId>
         ensures { AcceptStep self.old result self.new }
     {

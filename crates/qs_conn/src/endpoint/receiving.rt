@@ -55,7 +55,7 @@ impl Endpoint {
     /// section 7).
     ///
     /// After `NoMemory` none was named that is still outstanding: the same payload may come again, and names the others.
-    #[tactic(auto, using(crate::proofs::Payloads::is_received, crate::proofs::TurnsTold::nothing_told))]
+    #[tactic(auto, using(crate::proofs::Asked::is_received, crate::proofs::TurnsTold::nothing_told))]
     pub fn receive_with_acks<T: Told>(
         &mut self,
         number: u64,

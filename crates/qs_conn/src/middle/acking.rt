@@ -55,7 +55,7 @@ impl Core {
         result
     }
 
-    #[tactic(auto, using(crate::proofs::RangeAcks::both_stops, crate::proofs::RangeAcks::both_done))]
+    #[tactic(auto, using(crate::proofs::AckRuns::both_stops, crate::proofs::AckRuns::both_done))]
     fn ack_both(&mut self, first: u64, end: u64) -> Result<(), NoMemory>
         requires rest { IsAtRest self.old }
         ensures rest { IsAtRest self.new }
@@ -69,7 +69,7 @@ impl Core {
         self.ack_numbers(true, first, end)
     }
 
-    #[tactic(auto, using(crate::proofs::RangeAcks::range_end, crate::proofs::RangeAcks::range_stop, crate::proofs::RangeAcks::range_more))]
+    #[tactic(auto, using(crate::proofs::AckRuns::range_end, crate::proofs::AckRuns::range_stop, crate::proofs::AckRuns::range_more))]
     #[inline(always)]
     fn ack_numbers(&mut self, late: bool, first: u64, end: u64) -> Result<(), NoMemory>
         requires rest { IsAtRest self.old }

@@ -1,5 +1,5 @@
 use Rattle.std.proofs.Common.{refl, arith}
-use Rattle.qs_conn.proofs.Searches.{clear_here, summed, found, none_past}
+use Rattle.qs_conn.proofs.Words.{clear_here, summed, found, none_past}
 use Rattle.qs_conn.proofs.marks.search.Goals as goal
 
 pub loop-place-init : goal.loop-place-init

@@ -1,4 +1,4 @@
-use Rattle.qs_conn.proofs.NewSettings.{kept_grant}
+use Rattle.qs_conn.proofs.Cores.{kept_grant}
 use Rattle.qs_conn.proofs.endpoint.Endpoint.force_grant.Goals as goal
 
 pub invariant_of-self : goal.invariant_of-self

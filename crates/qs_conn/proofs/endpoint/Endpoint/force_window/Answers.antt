@@ -1,4 +1,4 @@
-use Rattle.qs_conn.proofs.NewSettings.{kept_window}
+use Rattle.qs_conn.proofs.Cores.{kept_window}
 use Rattle.qs_conn.proofs.endpoint.Endpoint.force_window.Goals as goal
 
 pub invariant_of-self : goal.invariant_of-self

@@ -84,27 +84,17 @@ returns-in-Err-clause-err c =
     restored_out c.args.self.now _ c.args.stream c.count-sends.result c.self-2.inside.core.outbox.spare c.close_to.new.self c.close_to-in-Err.new.self (c.self-2.view_is ∙ c.in_ok-open_by_peer.ensures.ok)
     (c.count-sends.ensures ∙ ap (λ (e : End). length (table e.sends (c.args.stream % 4))) c.self.view_is) c.close_to.ensures recvs
 
-pub close_to-requires-clause-none : goal.close_to-requires-clause-none
-close_to-requires-clause-none c =
-    peer_none c.args.self.now _ c.args.stream c.count-sends.result (c.self-2.view_is ∙ c.in_ok-open_by_peer.ensures.ok) (c.count-sends.ensures ∙ ap (λ (e : End). length (table e.sends (c.args.stream % 4))) c.self.view_is)
-    (subst (λ (k : End). AreOfOpen k.sends k.outstanding) c.self.view_is c.learn_of_open.ensures.outstanding)
-
-pub close_to-requires-clause-lost : goal.close_to-requires-clause-lost
-close_to-requires-clause-lost c =
-    peer_lost c.args.self.now _ c.args.stream c.count-sends.result (c.self-2.view_is ∙ c.in_ok-open_by_peer.ensures.ok) (c.count-sends.ensures ∙ ap (λ (e : End). length (table e.sends (c.args.stream % 4))) c.self.view_is)
-    (subst (λ (k : End). AreOfOpen k.sends k.lost.pieces) c.self.view_is c.learn_of_open.ensures.lost)
-
-pub close_to-requires-clause-unwritten : goal.close_to-requires-clause-unwritten
-close_to-requires-clause-unwritten c =
-    peer_unwritten promised_on (λ j limit buffer. refl) c.args.self.now _ c.args.stream c.count-sends.result (c.self-2.view_is ∙ c.in_ok-open_by_peer.ensures.ok) (c.count-sends.ensures ∙ ap (λ (e : End). length (table e.sends (c.args.stream % 4))) c.self.view_is)
-
-pub close_to-requires-clause-unkept : goal.close_to-requires-clause-unkept
-close_to-requires-clause-unkept c =
-    peer_unwritten kept_on (λ j limit buffer. refl) c.args.self.now _ c.args.stream c.count-sends.result (c.self-2.view_is ∙ c.in_ok-open_by_peer.ensures.ok) (c.count-sends.ensures ∙ ap (λ (e : End). length (table e.sends (c.args.stream % 4))) c.self.view_is)
-
-pub close_to-requires-clause-unsent : goal.close_to-requires-clause-unsent
-close_to-requires-clause-unsent c =
-    peer_unsent c.args.self.now _ c.args.stream c.count-sends.result (c.self-2.view_is ∙ c.in_ok-open_by_peer.ensures.ok) (c.count-sends.ensures ∙ ap (λ (e : End). length (table e.sends (c.args.stream % 4))) c.self.view_is)
+pub close_to-requires : goal.close_to-requires
+close_to-requires c =
+    let opened = c.self-2.view_is ∙ c.in_ok-open_by_peer.ensures.ok in
+    let count = c.count-sends.ensures ∙ ap (λ (e : End). length (table e.sends (c.args.stream % 4))) c.self.view_is in
+    record {
+      none = peer_none c.args.self.now _ c.args.stream c.count-sends.result opened count (subst (λ (k : End). AreOfOpen k.sends k.outstanding) c.self.view_is c.learn_of_open.ensures.outstanding);
+      lost = peer_lost c.args.self.now _ c.args.stream c.count-sends.result opened count (subst (λ (k : End). AreOfOpen k.sends k.lost.pieces) c.self.view_is c.learn_of_open.ensures.lost);
+      unsent = peer_unsent c.args.self.now _ c.args.stream c.count-sends.result opened count;
+      unwritten = peer_unwritten promised_on (λ j limit buffer. refl) c.args.self.now _ c.args.stream c.count-sends.result opened count;
+      unkept = peer_unwritten kept_on (λ j limit buffer. refl) c.args.self.now _ c.args.stream c.count-sends.result opened count;
+    }
 
 pub invariant_of-self-2 : goal.invariant_of-self-2
 invariant_of-self-2 c =
@@ -115,7 +105,7 @@ invariant_of-self-2 c =
     let sound : IsInCredit c.args.self.now = subst (λ (k : End). IsInCredit k) c.self.view_is c.self.invariant.rest.core.sound in
     let checked = stream_checked c.args.self.now _ c.args.stream c.args.offset c.args.bytes.now c.args.fin c.requires.passed opened in
     kept_moved _ _ _ _ _ _ c.self-2.invariant _
-    (rest_recvs core h c.take_stream.new.self core.untold_recvs c.recount.new.self
+    (rest_recvs core h c.take_stream.new.self core.untold_recvs c.recount.new.self core.carried
     (stream_sound c.args.self.now _ c.args.stream c.args.offset c.args.bytes.now c.args.fin c.take_stream.new.self sound c.requires.passed opened after)
     (fit_streamed _ _ _ _ _ _ _ h.core.counts _ _ h.core.sound _ c.args.stream _ _ _ _ c.is_over-was.result c.is_over-is.result checked after c.is_over-was.ensures.value c.is_over-is.ensures.value (c.recount.ensures (may_recount _ _ _ _ _ _ h.core.counts.counted c.is_over-was.ensures.value c.is_over-was.ensures.few)))
     (told_streamed core.limits.role core.limits.settings core.recvs core.outbox.outstanding core.outbox.acked core.untold_recvs h.core.told_in c.take_stream.new.self c.args.stream _ _ h.core.sound c.args.offset c.args.bytes.now c.args.fin checked after)

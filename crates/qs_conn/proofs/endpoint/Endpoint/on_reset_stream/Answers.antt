@@ -26,7 +26,7 @@ invariant_of-self c =
     let h = c.self-2.invariant.rest in
     let sound : IsInCredit c.args.self.now = subst (λ (k : End). IsInCredit k) c.self.view_is c.self.invariant.rest.core.sound in
     kept_moved _ _ _ _ _ _ c.self-2.invariant _
-    (rest_recvs core h c.take_reset.new.self core.untold_recvs c.recount.new.self
+    (rest_recvs core h c.take_reset.new.self core.untold_recvs c.recount.new.self core.carried
     (reset_sound c.args.self.now _ c.args.stream c.args.code c.args.size c.take_reset.new.self sound c.requires.passed (c.self-2.view_is ∙ c.in_ok-open_by_peer.ensures.ok) c.take_reset.ensures)
     (fit_broken _ _ _ _ _ _ _ h.core.counts _ c.args.stream _ _ _ c.is_over-was.result c.is_over-is.result c.take_reset.ensures c.is_over-was.ensures.value c.is_over-is.ensures.value (c.recount.ensures (may_recount _ _ _ _ _ _ h.core.counts.counted c.is_over-was.ensures.value c.is_over-was.ensures.few)))
     (told_broken core.limits.role core.limits.settings core.recvs core.outbox.outstanding core.outbox.acked core.untold_recvs h.core.told_in c.take_reset.new.self c.args.stream c.args.code c.args.size c.take_reset.ensures)

@@ -6,7 +6,7 @@ use Rattle.qs_machine.specs.Standing.{IsInCredit}
 use Rattle.qs_machine.proofs.Taken.{in_there, stream_in, stream_checked, stream_unchanged, stream_sound}
 use Rattle.qs_conn.proofs.Calm.{told_streamed}
 use Rattle.qs_conn.proofs.CarriedSteps.{carried_recv}
-use Rattle.qs_conn.proofs.Cores.{rest_recvs}
+use Rattle.qs_conn.proofs.Cores.{kept_next, rest_recvs}
 use Rattle.qs_conn.proofs.Plains.{plain_next, fit_plain}
 use Rattle.qs_conn.proofs.endpoint.Endpoint.on_stream.Goals as goal
 
@@ -37,16 +37,10 @@ invariant_of-self-then-is_plain c =
     let lane = plain.lane _ (ap (λ (e : End). lookup e.recvs c.args.stream) (sym c.self.view_is) ∙ found) in
     let sound : IsInCredit c.args.self.now = subst (λ (e : End). IsInCredit e) c.self.view_is h.core.sound in
     let checked = stream_checked c.args.self.now _ c.args.stream c.args.offset c.args.bytes.now c.args.fin c.requires.passed opened in
-    record {
-      rest =
-          rest_recvs core h c.take_stream.new.self core.untold_recvs core.ended
-          (stream_sound c.args.self.now _ c.args.stream c.args.offset c.args.bytes.now c.args.fin c.take_stream.new.self sound c.requires.passed opened after)
-          (fit_plain core.recvs c.take_stream.new.self c.args.stream c.args.offset c.args.bytes.now c.args.fin _ found lane after _ _ _ _ _ _ h.core.counts _ _ h.core.sound checked)
-          (told_streamed core.limits.role core.limits.settings core.recvs core.outbox.outstanding core.outbox.acked core.untold_recvs h.core.told_in c.take_stream.new.self c.args.stream _ _ h.core.sound c.args.offset c.args.bytes.now c.args.fin checked after)
-          (carried_recv core.recvs core.outbox.sends core.outbox.outstanding core.carried h.core.carried c.take_stream.new.self c.args.stream (λ l. take_stream l c.args.offset c.args.bytes.now c.args.fin) after (λ l. record { limit = refl; stop = λ v e. e }));
-      peer_fits = k.peer_fits;
-      closing_fits = k.closing_fits;
-      few = k.few;
-      acks = k.acks;
-      settled = plain_next core.recvs c.take_stream.new.self c.args.stream c.args.offset c.args.bytes.now c.args.fin _ found lane after _ _ _ _ _ _ _ _ k.settled;
-    }
+    kept_next _ _ _ _ _ _ k _ _
+    (rest_recvs core h c.take_stream.new.self core.untold_recvs core.ended core.carried
+    (stream_sound c.args.self.now _ c.args.stream c.args.offset c.args.bytes.now c.args.fin c.take_stream.new.self sound c.requires.passed opened after)
+    (fit_plain core.recvs c.take_stream.new.self c.args.stream c.args.offset c.args.bytes.now c.args.fin _ found lane after _ _ _ _ _ _ h.core.counts _ _ h.core.sound checked)
+    (told_streamed core.limits.role core.limits.settings core.recvs core.outbox.outstanding core.outbox.acked core.untold_recvs h.core.told_in c.take_stream.new.self c.args.stream _ _ h.core.sound c.args.offset c.args.bytes.now c.args.fin checked after)
+    (carried_recv core.recvs core.outbox.sends core.outbox.outstanding core.carried h.core.carried c.take_stream.new.self c.args.stream (λ l. take_stream l c.args.offset c.args.bytes.now c.args.fin) after (λ l. record { limit = refl; stop = λ v e. e })))
+    (plain_next core.recvs c.take_stream.new.self c.args.stream c.args.offset c.args.bytes.now c.args.fin _ found lane after _ _ _ _ _ _ _ _ k.settled)

@@ -21,20 +21,17 @@ invariant_of-self-2 c =
     kept_moved _ _ _ _ _ _ c.self.invariant _
     (rest_opened core h c.args.stream c.window-window.result _ _ _ _ _ _ _ _ _ c.in_ok-open_sends.ensures.ok c.in_default.ensures.ok window c.in_ok-open_to.ensures.ok c.in_ok-open_to-2.ensures.ok _ c.in_ok-open_to-3.ensures.ok)
 
-pub close_to-requires-clause-none : goal.close_to-requires-clause-none
-close_to-requires-clause-none c = none_back c.self.inside.core.outbox c.open_sends.new.outbox c.args.stream c.count-before.result _ _ _ c.in_ok-open_sends.ensures.ok c.count-before.ensures c.learn_of_open.ensures.outstanding
-
-pub close_to-requires-clause-lost : goal.close_to-requires-clause-lost
-close_to-requires-clause-lost c = lost_back c.self.inside.core.outbox c.open_sends.new.outbox c.args.stream c.count-before.result _ _ _ c.in_ok-open_sends.ensures.ok c.count-before.ensures c.learn_of_open.ensures.lost
-
-pub close_to-requires-clause-unwritten : goal.close_to-requires-clause-unwritten
-close_to-requires-clause-unwritten c = unwritten_back promised_on (λ j limit buffer. refl) c.self.inside.core.outbox c.open_sends.new.outbox c.args.stream c.count-before.result _ _ _ c.in_ok-open_sends.ensures.ok c.count-before.ensures
-
-pub close_to-requires-clause-unkept : goal.close_to-requires-clause-unkept
-close_to-requires-clause-unkept c = unwritten_back kept_on (λ j limit buffer. refl) c.self.inside.core.outbox c.open_sends.new.outbox c.args.stream c.count-before.result _ _ _ c.in_ok-open_sends.ensures.ok c.count-before.ensures
-
-pub close_to-requires-clause-unsent : goal.close_to-requires-clause-unsent
-close_to-requires-clause-unsent c = unsent_back c.self.inside.core.outbox c.open_sends.new.outbox c.args.stream c.count-before.result _ _ _ c.in_ok-open_sends.ensures.ok c.count-before.ensures
+pub close_to-requires : goal.close_to-requires
+close_to-requires c =
+    let old = c.self.inside.core.outbox in
+    let new = c.open_sends.new.outbox in
+    record {
+      none = none_back old new c.args.stream c.count-before.result _ _ _ c.in_ok-open_sends.ensures.ok c.count-before.ensures c.learn_of_open.ensures.outstanding;
+      lost = lost_back old new c.args.stream c.count-before.result _ _ _ c.in_ok-open_sends.ensures.ok c.count-before.ensures c.learn_of_open.ensures.lost;
+      unsent = unsent_back old new c.args.stream c.count-before.result _ _ _ c.in_ok-open_sends.ensures.ok c.count-before.ensures;
+      unwritten = unwritten_back promised_on (λ j limit buffer. refl) old new c.args.stream c.count-before.result _ _ _ c.in_ok-open_sends.ensures.ok c.count-before.ensures;
+      unkept = unwritten_back kept_on (λ j limit buffer. refl) old new c.args.stream c.count-before.result _ _ _ c.in_ok-open_sends.ensures.ok c.count-before.ensures;
+    }
 
 pub invariant_of-self-in-Err : goal.invariant_of-self-in-Err
 invariant_of-self-in-Err c =

@@ -1,17 +1,17 @@
 use Rattle.std.proofs.Common.{Ok, Err, rules}
 use Rattle.qs_ranges.specs.declared.NoMemory.{NoMemory}
 use Rattle.qs_conn.specs.Runs.{AcksAhead}
-use Rattle.qs_conn.proofs.AckRuns.{pass_end, pass_stop}
+use Rattle.qs_conn.proofs.AckRuns.{ahead_stop, goes_below, pass_end}
 use Rattle.qs_conn.proofs.Cores.{streams_on}
 use Rattle.qs_conn.proofs.NewlyTold.{less_self, less_on, less_packet, tells_end, asks_stop}
-use Rattle.qs_conn.proofs.RowAcks.{at_low, from_ahead, from_less, from_le, from_told}
+use Rattle.qs_conn.proofs.RowAcks.{from_ahead, from_less, from_le, from_told}
 use Rattle.qs_conn.proofs.middle.Core.ack_ahead.Goals as goal
 
 pub loop-number-preserved : goal.loop-number-preserved
 loop-number-preserved g c =
     let old = c.loop-number.self.outbox in
     let mid = c.ack_from.new.self.outbox in
-    let acked = at_low c.args.late c.in-Some.number _ _ _ old mid c.low-low.ensures c.in_ok-first.ensures.ok in
+    let acked = rw c.low-low.ensures at c.in_ok-first.ensures.ok in
     record {
       rest = c.in_ok-first.ensures.rest;
       streams = streams_on _ _ _ c.loop-number.invariant.streams c.in_ok-first.ensures.streams;
@@ -31,7 +31,7 @@ pub returns-in_err-first-clause-step : goal.returns-in_err-first-clause-step
 returns-in_err-first-clause-step g c =
     let h : (e : NoMemory) → AcksAhead c.args.late c.args.pass.now c.args.self.now.outbox (Err e) c.ack_from.new.self.outbox =
     λ e. c.loop-number.invariant.onward (Err e) c.ack_from.new.self.outbox
-    (pass_stop c.args.late c.loop-number.pass c.next_named.new.pass c.in-Some.number c.loop-number.self.outbox c.ack_from.new.self.outbox c.next_named.result _ e c.in-Some.is c.next_named.ensures.answer c.in_err-first.ensures.err) in
+    (ahead_stop c.args.late c.loop-number.pass c.next_named.new.pass c.in-Some.number c.loop-number.self.outbox c.ack_from.new.self.outbox _ e (λ falls. goes_below _ _ _ _ _ c.in-Some.is (c.next_named.ensures.answer falls)) c.in_err-first.ensures.err) in
     search (rules, h, c.from_residual.ensures)
 
 pub returns-in_err-first-clause-told : goal.returns-in_err-first-clause-told

@@ -1,5 +1,5 @@
 use Rattle.std.proofs.Common.{Ok}
-use Rattle.qs_conn.proofs.RangeAcks.{both_done, none_late}
+use Rattle.qs_conn.proofs.AckRuns.{both_done, none_late}
 use Rattle.qs_conn.proofs.middle.Core.ack_both.Goals as goal
 
 pub returns-clause-step : goal.returns-clause-step

@@ -1,7 +1,7 @@
 use Rattle.std.proofs.Common.{ap, sym, ◌∙◌, length}
 use Rattle.qs_machine.specs.Sums.{tables_of}
 use Rattle.qs_machine.proofs.TableEdits.{table_at}
-use Rattle.qs_conn.proofs.Halves.{count_lanes}
+use Rattle.qs_conn.proofs.Outboxes.{count_lanes}
 use Rattle.qs_conn.proofs.outbox.Outbox.count_of.Goals as goal
 
 pub returns-clause-value : goal.returns-clause-value

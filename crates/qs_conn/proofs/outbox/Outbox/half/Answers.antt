@@ -1,5 +1,5 @@
 use Rattle.std.proofs.Common.{refl, sym, ◌∙◌, ◌≡◌, false, arith}
-use Rattle.qs_conn.proofs.Telling.{no_lookup, lookup_now}
+use Rattle.qs_conn.proofs.Outboxes.{no_lookup, lookup_now}
 use Rattle.qs_machine.specs.Sums.{tables_of}
 use Rattle.qs_conn.proofs.outbox.Outbox.half.Goals as goal
 

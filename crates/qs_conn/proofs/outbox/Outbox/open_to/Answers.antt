@@ -7,8 +7,7 @@ use Rattle.qs_machine.specs.Sums.{tables_of}
 use Rattle.qs_machine.proofs.TableEdits.{on_ok}
 use Rattle.qs_machine.proofs.LaneTables.{lanes_opened}
 use Rattle.qs_machine.proofs.LostSent.{sent_open}
-use Rattle.qs_conn.proofs.Halves.{opened_ok, opened_err}
-use Rattle.qs_conn.proofs.Outboxes.{sends_step, same_step, on_error, box_open}
+use Rattle.qs_conn.proofs.Outboxes.{opened_ok, opened_err, sends_step, same_step, on_error, box_open}
 use Rattle.qs_conn.proofs.outbox.Outbox.open_to.Goals as goal
 
 pub invariant_of-self : goal.invariant_of-self

@@ -3,10 +3,9 @@ use Rattle.std.proofs.lemmas.List.{length-set}
 use Rattle.qs_send.specs.Lane.{Sending, reset_refusal, answer_of, reset_lane, after_reset}
 use Rattle.qs_machine.specs.Outgoing.{lanes_of}
 use Rattle.qs_machine.specs.Sums.{tables_of}
-use Rattle.qs_machine.proofs.LaneTables.{lanes_updated}
 use Rattle.qs_machine.proofs.LostSent.{sent_reset}
 use Rattle.qs_machine.proofs.TableEdits.{open_there, half_is, updated_is}
-use Rattle.qs_conn.proofs.Outboxes.{half_there, lane_now, lane_step, same_step, box_reset, reset_err, on_error}
+use Rattle.qs_conn.proofs.Outboxes.{half_there, lane_now, half_step, same_step, box_reset, reset_err, on_error}
 use Rattle.qs_conn.proofs.outbox.Outbox.reset.Goals as goal
 
 pub reset-requires-clause-there : goal.reset-requires-clause-there
@@ -23,6 +22,6 @@ returns c =
     let is = updated_is c.self.inside.types c.args.stream _ _ _ _ (λ s. after_reset s c.args.code) c.self.invariant.2 c.type_of.ensures.value c.index_of.ensures.value c.reset.ensures.after in
     let answer = c.reset.ensures.answer ∙ ap (λ (s : Sending). answer_of (reset_refusal s.lane)) (sym (half_is c.self.inside.types c.args.stream _ _ _ c.self.invariant.2 c.type_of.ensures.value c.index_of.ensures.value)) in record {
       answer = answer ∙ ap (λ l. answer_of (reset_refusal l)) (sym (lane_now _ c.args.self.now (tables_of c.self.inside.types) c.args.stream c.self.view_is refl));
-      after = lane_step _ c.args.self.now c.args.stream (λ l. reset_lane l c.args.code) _ c.self.view_is (ap lanes_of is ∙ lanes_updated (tables_of c.self.inside.types) c.args.stream (λ s. after_reset s c.args.code) (λ l. reset_lane l c.args.code) (λ s there. refl));
+      after = half_step _ c.args.self.now (tables_of c.self.inside.types) _ c.args.stream (λ s. after_reset s c.args.code) (λ l. reset_lane l c.args.code) c.self.view_is refl (λ s. refl) is;
       err = on_error c.reset.result _ _ (λ same. same_step _ c.args.self.now _ c.self.view_is (ap lanes_of same)) (reset_err (tables_of c.self.inside.types) _ c.args.stream c.args.code c.reset.result (half_there _ c.args.self.now (tables_of c.self.inside.types) c.args.stream c.self.view_is refl c.requires.open) is answer);
     }

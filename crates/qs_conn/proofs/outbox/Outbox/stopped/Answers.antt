@@ -1,12 +1,10 @@
-use Rattle.std.proofs.Common.{ap, ◌∙◌, refl}
+use Rattle.std.proofs.Common.{◌∙◌, refl}
 use Rattle.std.proofs.lemmas.List.{length-set}
 use Rattle.qs_send.specs.Lane.{stop_taken, after_stop}
-use Rattle.qs_machine.specs.Outgoing.{lanes_of}
 use Rattle.qs_machine.specs.Sums.{tables_of}
-use Rattle.qs_machine.proofs.LaneTables.{lanes_updated}
 use Rattle.qs_machine.proofs.LostSent.{sent_stop}
 use Rattle.qs_machine.proofs.TableEdits.{open_there, updated_is}
-use Rattle.qs_conn.proofs.Outboxes.{half_there, lane_step, box_stopped, stop_lane}
+use Rattle.qs_conn.proofs.Outboxes.{half_there, half_step, box_stopped, stop_lane}
 use Rattle.qs_conn.proofs.outbox.Outbox.stopped.Goals as goal
 
 pub stopped-requires-clause-there : goal.stopped-requires-clause-there
@@ -20,5 +18,5 @@ invariant_of-self c =
 
 pub returns : goal.returns
 returns c =
-    let is = updated_is c.self.inside.types c.args.stream _ _ _ _ (λ s. after_stop c.args.owner_answers s c.args.code) c.self.invariant.2 c.type_of.ensures.value c.index_of.ensures.value c.stopped.ensures in
-    lane_step _ c.args.self.now c.args.stream _ _ c.self.view_is (ap lanes_of is ∙ lanes_updated (tables_of c.self.inside.types) c.args.stream (λ s. after_stop c.args.owner_answers s c.args.code) (λ l. stop_taken c.args.owner_answers l c.args.code) (λ s there. stop_lane c.args.owner_answers s c.args.code))
+    half_step _ c.args.self.now (tables_of c.self.inside.types) _ c.args.stream (λ s. after_stop c.args.owner_answers s c.args.code) (λ l. stop_taken c.args.owner_answers l c.args.code) c.self.view_is refl (λ s. stop_lane c.args.owner_answers s c.args.code)
+    (updated_is c.self.inside.types c.args.stream _ _ _ _ (λ s. after_stop c.args.owner_answers s c.args.code) c.self.invariant.2 c.type_of.ensures.value c.index_of.ensures.value c.stopped.ensures)

@@ -3,7 +3,7 @@ use Rattle.std.proofs.lemmas.Bool.{both_ways}
 use Rattle.qs_send.specs.declared.parts.SendState.TheVariants.{ResetSent}
 use Rattle.qs_send.specs.Lane.{Sending, state, after_reset_acked}
 use Rattle.qs_machine.proofs.TableEdits.{open_there, updated_is}
-use Rattle.qs_conn.proofs.Halves.{half_known}
+use Rattle.qs_conn.proofs.Outboxes.{half_known}
 use Rattle.qs_conn.proofs.OutboxAcks.{not_sent_again}
 use Rattle.qs_machine.specs.Sums.{tables_of}
 use Rattle.qs_conn.proofs.outbox.acks.reset_acked.Goals as goal

@@ -3,9 +3,8 @@ use Rattle.qs_send.specs.Lane.{Sending}
 use Rattle.qs_send.specs.Halves.{half_at}
 use Rattle.qs_send.specs.Sound.{IsLawful}
 use Rattle.qs_conn.specs.Tasks.{Stays}
-use Rattle.qs_conn.proofs.OverHalves.{lent_at}
+use Rattle.qs_conn.proofs.SendEdits.{lent_at, set_same}
 use Rattle.qs_conn.proofs.Promised.{kept_of, promised_of, sum_few, sums_counted}
-use Rattle.qs_conn.proofs.SendEdits.{set_same}
 use Rattle.qs_conn.proofs.Tasks.{all_looked, marked_before, marks_read}
 use Rattle.qs_conn.proofs.send_lanes.SendLanes.edit.Goals as goal
 

@@ -1,8 +1,7 @@
 use Rattle.std.proofs.Common.{◌<◌, length, refl, sym, ◌∙◌}
 use Rattle.qs_send.specs.Halves.{half_at}
 use Rattle.qs_send.specs.Lane.{after_buffer}
-use Rattle.qs_conn.proofs.OverHalves.{buffer_over, put_over, put_looked}
-use Rattle.qs_conn.proofs.SendEdits.{changed_is}
+use Rattle.qs_conn.proofs.SendEdits.{buffer_over, put_over, put_looked, changed_is}
 use Rattle.qs_conn.proofs.send_lanes.SendLanes.set_buffer.Goals as goal
 
 pub look_at-requires-clause-over : goal.look_at-requires-clause-over
