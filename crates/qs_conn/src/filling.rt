@@ -51,6 +51,7 @@ pub(crate) struct Wish {
 }
 
 /// `None` if it doesn't fit; then nothing is written, so the packet stays a text.
+#[tactic(auto, using(crate::proofs::Texts::behind_text))]
 fn put_frame(frame: &Frame<'_>, out: &mut [u8], len: usize) -> Option<usize>
     requires fits { Fits (view frame.now) }
     requires within { len ≤ length out.old }

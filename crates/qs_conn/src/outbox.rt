@@ -121,6 +121,7 @@ impl Outbox {
         halves::learn_lawful(&self.types, stream);
     }
 
+    #[tactic(auto, using(crate::proofs::Outboxes::open_now))]
     pub(crate) fn is_open(&self, stream: StreamId) -> bool
         ensures { result ≡ is_some (lookup self.now.sends stream) }
     {
@@ -148,6 +149,7 @@ impl Outbox {
         self.count_of(type_of(stream))
     }
 
+    #[tactic(auto, using(qs_machine::proofs::TableEdits::table_at, crate::proofs::Outboxes::count_lanes))]
     pub(crate) fn count_of(&self, stream_type: usize) -> usize
         requires { stream_type < 4 }
         ensures value { result ≡ length (table self.now.sends stream_type) }

@@ -112,6 +112,7 @@ impl RecvTables {
         self.count_of(type_of(stream))
     }
 
+    #[tactic(auto, using(qs_machine::proofs::TableEdits::table_at))]
     pub(crate) fn count_of(&self, stream_type: usize) -> usize
         requires { stream_type < 4 }
         ensures value { result ≡ length (table self.now stream_type) }
@@ -342,6 +343,7 @@ impl RecvTables {
         }
     }
 
+    #[tactic(auto, using(crate::proofs::Least::kinds_four))]
     pub(crate) fn next_with(&self, task: RecvTask, from: u64) -> Option<StreamId>
         requires { from ≤ 2 ^ 62 }
         ensures { IsLeast (IsHeld (HasOne task) self.now) from result }

@@ -126,6 +126,7 @@ fn greatest(known: Option<u64>, value: u64) -> Option<u64>
     }
 }
 
+#[tactic(auto, using(qs_machine::proofs::RunLaws::insert_is_range))]
 fn add(streams: &mut RangeSet, stream: StreamId) -> Result<(), NoMemory>
     ensures ok { OnOk result (streams.new ≡ set.insert streams.old stream) }
     ensures err { OnErr result (streams.new ≡ streams.old) }

@@ -134,6 +134,7 @@ impl ToldMarks {
     }
 
     /// An index below which each was told.
+    #[tactic(auto, using(crate::proofs::Fulls::below_here))]
     pub(crate) fn first(&self) -> usize
         ensures { AreMarkedBelow self.now result }
     {

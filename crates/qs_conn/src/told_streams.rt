@@ -47,6 +47,7 @@ impl ToldStreams {
         }
     }
 
+    #[tactic(auto, using(crate::proofs::ToldTables::told_read))]
     pub(crate) fn has(&self, stream: StreamId) -> bool
         ensures { result ≡ is_told self.now stream }
     {

@@ -16,6 +16,7 @@ impl Endpoint {
     /// acknowledged, or the reset (RFC 9000, section 3). `None` if there is none.
     ///
     /// It takes no memory, and looks at one word of marks of each half for 64 streams of a type.
+    #[tactic(auto, using(crate::proofs::ToldSearch::untold_of_none))]
     pub fn next_ended(&self, from: StreamId) -> Option<StreamId>
         ensures { IsLeast (IsEnded self.now) from result }
     {

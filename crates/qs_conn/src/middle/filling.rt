@@ -279,7 +279,7 @@ impl Core {
         self.outbox.next_marked(Task::Again, from)
     }
 
-    #[tactic(auto, using(crate::proofs::Cores::fills_same))]
+    #[tactic(auto, using(crate::proofs::Cores::fills_same, crate::proofs::Flows::flow_none))]
     #[inline(always)]
     fn put_open(&mut self, stream: StreamId, out: &mut [u8], packet: Course) -> Course
         requires filling { IsFilling self.old out.old packet.len }

@@ -30,6 +30,7 @@ pub(crate) struct KeptPacket {
 
 impl Outbox {
     /// Each outstanding packet has a piece. It does nothing: a caller learns the clause.
+    #[tactic(auto, using(crate::proofs::OutboxAcks::idle_out))]
     pub(crate) fn learn_none_empty(&self)
         requires { IsIdle self.now }
         ensures { NoneEmpty self.now.outstanding }

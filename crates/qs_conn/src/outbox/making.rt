@@ -104,12 +104,14 @@ impl Outbox {
         self.spare -= 1;
     }
 
+    #[tactic(auto, using(crate::proofs::LastStreams::pieces_there))]
     pub(crate) fn last_stream(&self) -> Option<StreamId>
         ensures { result ≡ last_data None (pieces_at self.now.outstanding self.now.next) }
     {
         last_data(&self.pending)
     }
 
+    #[tactic(auto, using(crate::proofs::OutboxMaking::piece_there))]
     pub(crate) fn has_piece(&self) -> bool
         ensures { result ≡ is_some (fmap.get self.now.outstanding self.now.next) }
     {

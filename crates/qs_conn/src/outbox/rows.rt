@@ -51,7 +51,7 @@ impl Outbox {
     }
 }
 
-#[tactic(auto, using(crate::proofs::Rows::row_longer))]
+#[tactic(auto, using(crate::proofs::Rows::row_longer, crate::proofs::Rows::row_one))]
 fn row_of(records: &Records, number: u64, low: u64) -> Option<Row>
     ensures { IfSome result (λ r. IsRowFrom records.now.pieces r.stream number low r.first r.chunk) }
 {
