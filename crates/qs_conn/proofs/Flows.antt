@@ -138,7 +138,7 @@ acked : {wish : Wish} {room : ℕ} {old : End} {text : List ℕ} {e : End} (f : 
 acked f left due = elim (f.ack due) [ inl full ↦ absurd (omega (arith, left, full)) | inr all ↦ all ]
 
 -- bytes of the stream may go
-abbrev pub BytesGo : End → ℕ → Type 0
+abbrev BytesGo : End → ℕ → Type 0
 BytesGo e n = (l : SendLane) × (send_lane e n ≡ Some l) × ByteGoes e n l
 
 -- Once the cap is used up and a stream has bytes that may go, no end goes alone: not its own, and no other in its turn.
@@ -171,22 +171,26 @@ chunking_done wish room old text e quota around first n k none =
       untouched = λ m no. k.untouched m (λ had. no (had_still around first n (n + 1) m (omega arith) had)) (λ same. no (subst (HadTurn around first (n + 1)) (sym same) (now_had around first n k.on_way)));
     }
 
+-- how long the frame of a chunk is
+pub frame_size : (n : ℕ) (c : Chunk) (bytes : List ℕ) → length bytes ≡ c.len → length (canonical (stream n c.offset c.fin bytes)) ≡ frame_len n c.offset c.len
+frame_size n c bytes count = sym (frame_len_is_canonical n c.offset c.fin bytes) ∙ ap (frame_len n c.offset) count
+
 module _ (wish : Wish) (room : ℕ) (old : End) (text : List ℕ) (e : End) (quota : ℕ) (around : Bool) (first n : ℕ) (k : Chunking wish room old text e quota around first n) (s : Sending) (t : Ties e n s) (fits : length text ≤ room) where
   abbrev it : Content first wish room old text e quota
   it = k.so_far.content
 
   -- it ends, as no chunk may go any more, whatever the room
-  pub chunking_ends : HasNoChunk s 25 (e.known_data - all_sent e) → Flowing wish room old text e quota (turn_at around first (n + 1))
+  chunking_ends : HasNoChunk s 25 (e.known_data - all_sent e) → Flowing wish room old text e quota (turn_at around first (n + 1))
   chunking_ends none = chunking_done wish room old text e quota around first n k (none_goes e n s 25 t (omega arith) it.within none)
 
   -- the packet is full, as the room holds a chunk back
-  pub chunking_full : HasNoChunk s (room - length text) (e.known_data - all_sent e) → IsHeldByRoom s (room - length text) (e.known_data - all_sent e) → Packed first wish room old text e quota
+  chunking_full : HasNoChunk s (room - length text) (e.known_data - all_sent e) → IsHeldByRoom s (room - length text) (e.known_data - all_sent e) → Packed first wish room old text e quota
   chunking_full none held =
       let few : room - length text < 19 = (held_by_room_or_limits s (room - length text) (e.known_data - all_sent e) t.lawful none).0 held in
       record { content = k.so_far.content; whole = λ left. absurd (omega (arith, few, left, fits)) }
 
   -- the cap was used up before, and the stream has bytes that may go
-  pub chunking_none : quota ≡ 0 → BytesGo e n → Packed first wish room old text e 0
+  chunking_none : quota ≡ 0 → BytesGo e n → Packed first wish room old text e 0
   chunking_none none goes = capped first wish room old text e around n (rw none at k.so_far) k.on_way k.over goes
 
   module _ (c : Chunk) (allowed : IsAllowed s (room - length text) (e.known_data - all_sent e) c) (has : HasBytes s.lane c) (bytes : List ℕ) (is : bytes ≡ bytes_of s.lane c) (count : length bytes ≡ c.len) where
@@ -202,17 +206,14 @@ module _ (wish : Wish) (room : ℕ) (old : End) (text : List ℕ) (e : End) (quo
     abbrev text' : List ℕ
     text' = text ++ canonical frame
 
-    pub chunk_len : length (canonical frame) ≡ frame_len n c.offset c.len
-    chunk_len = sym (frame_len_is_canonical n c.offset c.fin bytes) ∙ ap (frame_len n c.offset) count
-
-    pub chunk_fits : Fits frame
+    chunk_fits : Fits frame
     chunk_fits = (omega (arith, t.tied.id, t.lawful.order.small_id), omega (arith, count, has.end, t.lawful.order.small))
 
     room_is : frame_len s.lane.id c.offset c.len ≡ frame_len n c.offset c.len
     room_is = ap (λ m. frame_len m c.offset c.len) t.tied.id
 
     len' : length text' ≡ length text + frame_len n c.offset c.len
-    len' = omega (arith, length-append text (canonical frame), chunk_len)
+    len' = omega (arith, length-append text (canonical frame), frame_size n c bytes count)
 
     left : room - length text - frame_len s.lane.id c.offset c.len ≡ room - length text'
     left = omega (arith, len', room_is)
@@ -249,7 +250,7 @@ module _ (wish : Wish) (room : ℕ) (old : End) (text : List ℕ) (e : End) (quo
         }
 
     -- one more chunk
-    pub chunking_next : IsNextChunk s (room - length text) (e.known_data - all_sent e) c → (rest : ℕ) → rest + c.len ≡ quota → Chunking wish room old text' after rest around first n
+    chunking_next : IsNextChunk s (room - length text) (e.known_data - all_sent e) c → (rest : ℕ) → rest + c.len ≡ quota → Chunking wish room old text' after rest around first n
     chunking_next next rest split =
         record {
           so_far = so_far' rest split;
@@ -261,11 +262,11 @@ module _ (wish : Wish) (room : ℕ) (old : End) (text : List ℕ) (e : End) (quo
         }
 
     -- the cap is used up, and the stream has bytes that may go still: nothing more may go in
-    pub chunking_cut : c.len ≡ quota → BytesGo after n → Packed first wish room old text' after 0
+    chunking_cut : c.len ≡ quota → BytesGo after n → Packed first wish room old text' after 0
     chunking_cut all goes = capped first wish room old text' after around n (so_far' 0 (omega (arith, all))) k.on_way over' goes
 
 -- The turns of more streams are over, of which nothing goes.
-pub flow_more : (wish : Wish) (room : ℕ) (old : End) (text : List ℕ) (e : End) (quota : ℕ) (b : Bool) (t u : Turn) → u.first ≡ t.first → (b ≡ false → (n : ℕ) → HadTurn u.around u.first u.at n → HadTurn t.around t.first t.at n ⊎ (StreamGoes e n → ⊥))
+flow_more : (wish : Wish) (room : ℕ) (old : End) (text : List ℕ) (e : End) (quota : ℕ) (b : Bool) (t u : Turn) → u.first ≡ t.first → (b ≡ false → (n : ℕ) → HadTurn u.around u.first u.at n → HadTurn t.around t.first t.at n ⊎ (StreamGoes e n → ⊥))
     → ((n : ℕ) → HadTurn t.around t.first t.at n → HadTurn u.around u.first u.at n) → Flow wish room old text e quota b t → Flow wish room old text e quota b u
 flow_more wish room old text e quota true t u same ended still f = rw same f
 flow_more wish room old text e quota false t u same ended still f =
@@ -383,10 +384,6 @@ pub stream_some : (n offset : ℕ) (fin : Bool) (bytes : List ℕ) → 2 ≤ len
 unfolding canonical
 stream_some n offset fin bytes = two _ n _
 
--- the frame of a chunk that may go, as it is written
-pub frame_size : (n : ℕ) (c : Chunk) (bytes : List ℕ) → length bytes ≡ c.len → length (canonical (stream n c.offset c.fin bytes)) ≡ frame_len n c.offset c.len
-frame_size n c bytes count = sym (frame_len_is_canonical n c.offset c.fin bytes) ∙ ap (frame_len n c.offset) count
-
 pub may_go : (o : Outgoing) (n : ℕ) (c : Chunk) (left fresh : ℕ) → Allowed o n left fresh c → MayGo o n c left
 may_go o n c left fresh (s, h, (next, has)) = record { half = s; there = h; chunk = next.chunk; has = has; fits = omega (arith, next.fits, ap (λ m. frame_len m c.offset c.len) h.tied.id) }
 
@@ -400,7 +397,7 @@ longer_frame : (id offset n m : ℕ) → n ≤ m → frame_len id offset n ≤ f
 longer_frame id offset n m le = (let more = short_len-more n m le in omega (arith, le, more))
 
 -- they may go where all of it may
-pub cut_allowed : (s : Sending) (c : Chunk) (room fresh bytes : ℕ) → IsAllowed s room fresh c → HasBytes s.lane c → 0 < bytes → bytes < c.len → IsAllowed s room fresh (cut c bytes)
+cut_allowed : (s : Sending) (c : Chunk) (room fresh bytes : ℕ) → IsAllowed s room fresh c → HasBytes s.lane c → 0 < bytes → bytes < c.len → IsAllowed s room fresh (cut c bytes)
 cut_allowed s c room fresh bytes a has some less =
     record {
       chunk = record {
@@ -422,7 +419,7 @@ pub cut_part : (o : Outgoing) (n : ℕ) (c d : Chunk) (left fresh bytes : ℕ) �
 cut_part o n c d left fresh bytes (s, h, (next, has)) is some less = (s, h, cut_both s c d left fresh bytes next.allowed has is some less)
 
 -- the stream has more bytes that may go
-pub cut_goes : (e : End) (n : ℕ) (s : Sending) (t : Ties e n s) (c d : Chunk) (room : ℕ) (allowed : IsAllowed s room (e.known_data - all_sent e) c) (chunk : IsDueChunk s d) (bytes : List ℕ) (count : length bytes ≡ d.len) → d.offset ≡ c.offset → d.len < c.len
+cut_goes : (e : End) (n : ℕ) (s : Sending) (t : Ties e n s) (c d : Chunk) (room : ℕ) (allowed : IsAllowed s room (e.known_data - all_sent e) c) (chunk : IsDueChunk s d) (bytes : List ℕ) (count : length bytes ≡ d.len) → d.offset ≡ c.offset → d.len < c.len
     → BytesGo (frame_put (Stream n d.offset bytes d.fin) e) n
 cut_goes e n s t c d room allowed chunk bytes count at less = (sent_lane s.lane d, then.lane, (next, due_is _ n (after_sent s d) then.tied then.lawful next there, omega (arith, allowed.chunk.within_limit, at, less), credit))
   where

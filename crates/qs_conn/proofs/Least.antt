@@ -1,5 +1,5 @@
 -- Searches for the least number with a property.
-use Rattle.std.proofs.Common.{◌≡◌, ℕ, ◌+◌, ◌-◌, ◌*◌, ◌/◌, ◌<◌, ◌≤◌, ◌^◌, ◌⊎◌, min, Bool, true, false, List, length, get_or, Option, None, Some, refl, sym, ◌∙◌, subst, arith, inl, inr}
+use Rattle.std.proofs.Common.{◌≡◌, ℕ, ◌+◌, ◌-◌, ◌*◌, ◌/◌, ◌<◌, ◌≤◌, ◌^◌, ◌⊎◌, min, Bool, true, List, length, get_or, Option, None, Some, refl, sym, ◌∙◌, subst, arith, inl, inr}
 use Rattle.std.specs.Option.{IfSome, IfNone}
 use Rattle.std.specs.Prelude.{option_map}
 use Rattle.std.proofs.lemmas.Bool.{cases_lt, both_ways}
@@ -24,7 +24,7 @@ none_before P from (Some m) h n le before p = grind (arith, h.least n, p)
 pub none_next : (P : ℕ → Type 0) (from m : ℕ) → ((n : ℕ) → n < from → P n → ⊥) → ((n : ℕ) → from ≤ n → n < m → P n → ⊥) → (P m → ⊥) → (n : ℕ) → n < m + 1 → P n → ⊥
 none_next P from m below between here n lt p = grind (arith, below n, between n, here, p)
 
--- The search over marks
+-- A search
 
 -- up to a place none has the property
 pub record IsClear (P : ℕ → Type 0) (from next : ℕ) : Type 0 where
@@ -33,18 +33,6 @@ pub record IsClear (P : ℕ → Type 0) (from next : ℕ) : Type 0 where
 
 pub clear_at : (P : ℕ → Type 0) (from : ℕ) → IsClear P from from
 clear_at P from = record { after = omega arith; none = λ i ge lt p. omega (arith, ge, lt) }
-
--- any property that only marked indexes have
-module _ (P : ℕ → Type 0) (ms : List Bool) (none : (i : ℕ) → is_marked ms i ≡ false → P i → ⊥) where
-  pub clear_marked : (from next index : ℕ) → IsClear P from next → IsNextMark ms next (Some index) → IsClear P from index
-  clear_marked from next index c h =
-      record {
-        after = omega (arith, c.after, (h.found index refl).0);
-        none = λ i ge lt p. grind (arith, c.none i, none i, h.unmarked i, p);
-      }
-
-  pub none_marked : (from next : ℕ) → IsClear P from next → IsNextMark ms next None → IsLeast P from None
-  none_marked from next c h = least_by P from None (λ n is. absurd (none-some n is)) (λ i ge before p. elim (cases_lt i next) [ inl lt ↦ c.none i ge lt p | inr past ↦ none i (h.unmarked i past tt) p ])
 
 module _ (P : ℕ → Type 0) (from index : ℕ) (c : IsClear P from index) where
   pub clear_over : (P index → ⊥) → IsClear P from (index + 1)
