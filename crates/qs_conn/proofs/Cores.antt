@@ -148,7 +148,7 @@ module _ (c : Core) (h : IsAtRest c) where
       (carried_send c.recvs c.outbox.sends c.outbox.outstanding c.carried core.carried _ n (λ l. reset_lane l code) refl (λ l. reset_keeps l code))
 
   pub rest_told_to_stop : (answers : Bool) (n code : ℕ) (o : Outgoing) (marks : Tables Bool) → o ≡ on_lane n (λ l. stop_taken answers l code) c.outbox → marks ≡ updated c.untold_sends n (λ b. true) (lookup c.untold_sends n) → IsAtRest (record c { outbox = o; untold_sends = marks })
-  rest_told_to_stop answers n code o marks c.carried is are =
+  rest_told_to_stop answers n code o marks is are =
       on_half n (λ l. stop_taken answers l code) o marks c.carried is (stop_sends answers code) (fit_sent _ _ _ _ _ _ _ core.counts _ n (λ l. stop_taken answers l code) refl (λ l there. ends_as_stopped answers code l)) (told_edited SendTells c.outbox.sends c.outbox.outstanding c.outbox.acked c.untold_sends core.told_out _ marks n (λ l. stop_taken answers l code) refl are)
       (carried_send c.recvs c.outbox.sends c.outbox.outstanding c.carried core.carried _ n (λ l. stop_taken answers l code) refl (stop_taken_keeps answers code))
 
