@@ -1,6 +1,7 @@
 -- A fault that stands in a payload is read.
+use Rattle.std.proofs.lemmas.Bool.Decides.{nat_tests}
 use Rattle.std.proofs.Common.{◌≡◌, ◌≢◌, ℕ, zero, suc, ◌+◌, ◌-◌, ◌^◌, ◌<◌, ◌≤◌, Bool, true, false, eqb, List, [], ◌∷◌, ◌++◌, length, take, drop, Option, Some, None, Result, Ok, Err, refl, sym, ap, subst, ◌∙◌, arith, inl, inr}
-use Rattle.std.proofs.lemmas.Bool.{eqb-true, lt-ltb, le-ltb}
+use Rattle.std.proofs.lemmas.Bool.{eqb-true}
 use Rattle.std.proofs.lemmas.List.{length-append, take-append-drop, drop_at}
 use Rattle.qs_wire.specs.declared.fault.FaultKind.{FaultKind}
 use Rattle.qs_wire.specs.declared.fault.FaultKind.TheVariants.{Empty, LongType, UnknownType, Truncated, OffsetTooLarge, CountTooLarge, BelowZero, IdentifierLength}
@@ -8,7 +9,7 @@ use Rattle.qs_wire.specs.declared.fault.WireFault.{WireFault}
 use Rattle.qs_wire.specs.declared.reading.Broken.{Broken}
 use Rattle.qs_wire.specs.Faults.{code_of}
 use Rattle.qs_wire.specs.Varint.{Spells, short, short_len, varint_at}
-use Rattle.qs_wire.specs.Layout.{FrameValue, PlacedValue, stream, crypto, ack, max_streams, streams_blocked, layout, type_of, number_of_type}
+use Rattle.qs_wire.specs.Layout.{FrameValue, PlacedValue, layout, number_of_type}
 use Rattle.qs_wire.specs.Grammar.{AreBytes, Begin, PayloadText, NoNumber, NoShape, FieldsBad, Breaks, BrokenShape, KnownType, FaultHere, FaultyText}
 use Rattle.qs_wire.specs.Reading.{◌>>=◌, body_at, breach_of, typed, split_type, number_of_type_at, checked, frame_at, Reading, with_first, placed_at, fault_at, one_frame, frames_at, reading_from, reading_of}
 use Rattle.qs_wire.proofs.Numbers.{IsBytes, IsBytes-drop, varint_takes, varint_again, short_from_length, short_least, short_positive}
@@ -67,10 +68,7 @@ known_below t bytes k = omega (arith, k.numbered, type_below k.type)
 at_body : (t : ℕ) (bytes : List ℕ) (k : KnownType t bytes) (r : Result (FrameValue × List ℕ) FaultKind) → body_at k.type k.after ≡ r
     → frame_at bytes ≡ (typed t r >>= λ x. checked t x (breach_of x.0))
 unfolding frame_at
-at_body t bytes k r e =
-    let first : number_of_type_at bytes ≡ Ok (t, k.after) = ap number_of_type_at k.parts ∙ type_at_again t k.after (known_below t bytes k) in
-    let known : type_of t ≡ Some k.type = ap type_of (sym k.numbered) ∙ type_again k.type in
-    rw (first, known, e) refl
+at_body t bytes k r e = grind (arith, nat_tests, type_at_again, known_below, type_again)
 
 ends_again : (t : ℕ) (bytes : List ℕ) (k : KnownType t bytes) → IsBytes bytes → NoShape bytes → (FieldsBad (layout k.type) k.after → ⊥) → frame_at bytes ≡ Err (broke Truncated t)
 ends_again t bytes k fits none good = at (body_at k.type k.after) refl
@@ -94,12 +92,7 @@ ends_again t bytes k fits none good = at (body_at k.type k.after) refl
         absurd (none x.0 made.0.text x.1 made.0.parts made.0.shape)
 
 breach_again : (k : FaultKind) (frame : FrameValue) → Breaks k frame → breach_of frame ≡ Some k
-breach_again OffsetTooLarge (stream s o fin bytes) h = rw (le-ltb _ _ h) refl
-breach_again OffsetTooLarge (crypto o bytes) h = rw (le-ltb _ _ h) refl
-breach_again CountTooLarge (max_streams dir count) h = rw (lt-ltb _ _ h) refl
-breach_again CountTooLarge (streams_blocked dir count) h = rw (lt-ltb _ _ h) refl
-breach_again BelowZero (ack largest delay ranges ecn) h = rw (lt-ltb _ _ h) refl
-breach_again _ _ h = absurd h
+breach_again k frame h = grind (arith, nat_tests)
 
 broken_again : (k : FaultKind) (t : ℕ) (bytes : List ℕ) → BrokenShape k t bytes → frame_at bytes ≡ Err (broke k t)
 broken_again k t bytes b =
@@ -168,24 +161,10 @@ shape_positive k t bytes b =
 
 -- only an empty payload has a fault where nothing is left
 here_empty : (k : FaultKind) (t : ℕ) (bytes : List ℕ) → length bytes ≡ 0 → FaultHere k t bytes → (k ≡ Empty) × (t ≡ 0)
-here_empty Empty t bytes e h = (refl, h.0)
-here_empty LongType t bytes e h = absurd (h.4 (short_nothing h.0 h.1 (omega (arith, ap length h.2, length-append h.0 h.1)) h.3))
-  where
-    short_nothing : (text after : List ℕ) → length text ≡ 0 → Spells t text → text ≡ short t
-    short_nothing text after none spells = absurd (omega (arith, spelled_positive t text spells))
-here_empty UnknownType t bytes e h = absurd (omega (arith, ap length h.1, length-append (short t) h.0, short_positive t))
-here_empty Truncated t bytes e h = absurd (omega (arith, h.0))
-here_empty OffsetTooLarge t bytes e h = absurd (omega (arith, shape_positive OffsetTooLarge t bytes h))
-here_empty CountTooLarge t bytes e h = absurd (omega (arith, shape_positive CountTooLarge t bytes h))
-here_empty BelowZero t bytes e h = absurd (omega (arith, shape_positive BelowZero t bytes h))
-here_empty IdentifierLength t bytes e h = absurd (omega (arith, ap length h.0.parts, length-append (short t) h.0.after, short_positive t))
+here_empty k t bytes e h = grind (arith, nat_tests, length-append, spelled_positive, short_positive, shape_positive)
 
 fault_is : (w : WireFault) (k : FaultKind) (p t : ℕ) → w.kind ≡ k → w.place ≡ p → w.frame_type ≡ t → w.code ≡ code_of w.kind → fault_at p (broke k t) ≡ w
-fault_is w k p t kind place type code =
-    ap (λ (j : FaultKind). fault_at p (broke j t)) (sym kind)
-    ∙ ap (λ (q : ℕ). fault_at q (broke w.kind t)) (sym place)
-    ∙ ap (λ (u : ℕ). fault_at w.place (broke w.kind u)) (sym type)
-    ∙ ap (λ (d : ℕ). record { kind = w.kind; place = w.place; code = d; frame_type = w.frame_type }) (sym code)
+fault_is w k p t kind place type code = grind (arith, nat_tests)
 
 -- a payload that has a fault is read up to that fault
 pub fault_read : (payload : List ℕ) (ps : List PlacedValue) (w : WireFault) → IsBytes payload → FaultyText ps w payload → reading_of payload ≡ record { left = ps; fault = Some w }

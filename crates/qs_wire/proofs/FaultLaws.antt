@@ -1,15 +1,16 @@
 -- Where no frame is read, the fault is the one that stands there.
-use Rattle.std.proofs.Common.{◌≡◌, ℕ, zero, suc, ◌+◌, ◌*◌, ◌^◌, ◌<◌, Bool, true, false, cond, eqb, ltb, leb, ◌&&◌, List, [], ◌∷◌, length, take, drop, Option, Some, None, Result, Ok, Err, refl, sym, ap, subst, ◌∙◌, arith, ◌⊎◌, inl, inr}
-use Rattle.std.proofs.lemmas.Bool.{cases_lt, eqb-false, ltb-true, ltb-false, le-leb, lt-leb}
+use Rattle.std.proofs.lemmas.Bool.Decides.{nat_tests}
+use Rattle.std.proofs.Common.{◌≡◌, ℕ, zero, suc, ◌<◌, Bool, true, false, cond, eqb, leb, ◌&&◌, List, [], ◌∷◌, length, take, drop, Option, Some, None, Result, Ok, Err, refl, sym, ap, subst, ◌∙◌, arith, ◌⊎◌, inl, inr}
+use Rattle.std.proofs.lemmas.Bool.{eqb-false}
 use Rattle.std.proofs.lemmas.List.{take-append-drop, length-take-le}
 use Rattle.qs_wire.specs.declared.fault.FaultKind.{FaultKind}
 use Rattle.qs_wire.specs.declared.fault.FaultKind.TheVariants.{LongType, UnknownType, Truncated, OffsetTooLarge, CountTooLarge, BelowZero, IdentifierLength}
 use Rattle.qs_wire.specs.declared.frame_type.FrameType.{FrameType}
 use Rattle.qs_wire.specs.declared.reading.Broken.{Broken}
-use Rattle.qs_wire.specs.Varint.{short, short_len, varint_at}
-use Rattle.qs_wire.specs.Layout.{FrameValue, stream, crypto, ack, max_streams, streams_blocked, taken, Field, number, number_if, counted, counted_if, plain, identifier, ack_ranges, ecn_if, layout, frame_of, type_of, number_of_type}
+use Rattle.qs_wire.specs.Varint.{short_len, varint_at}
+use Rattle.qs_wire.specs.Layout.{FrameValue, Field, number, number_if, counted, counted_if, plain, identifier, ack_ranges, ecn_if, layout, type_of, number_of_type}
 use Rattle.qs_wire.specs.Grammar.{NoNumber, NoShape, NoFrame, FieldBad, FieldsBad, Breaks, BrokenShape, KnownType, FaultHere}
-use Rattle.qs_wire.specs.Reading.{◌>>=◌, split_number, number_at, plain_at, counted_at, identifier_at, numbers_at, ranges_at, counts_at, field_at, fields_at, body_at, breach_of, typed, split_type, number_of_type_at, known_type, checked, frame_at}
+use Rattle.qs_wire.specs.Reading.{◌>>=◌, number_at, plain_at, counted_at, identifier_at, numbers_at, ranges_at, counts_at, field_at, fields_at, body_at, breach_of, typed, split_type, number_of_type_at, known_type, checked, frame_at}
 use Rattle.qs_wire.proofs.Numbers.{IsBytes, varint_takes, varint_again, length-short}
 use Rattle.qs_wire.proofs.Types.{number_back, by_test, above_all}
 use Rattle.qs_wire.proofs.FieldLaws.{field_takes, field_again}
@@ -24,11 +25,7 @@ bind_err (Err c) f d e = let same : c ≡ d = cc in inl (ap Err same)
 
 number_fails : (bytes : List ℕ) (k : FaultKind) → number_at bytes ≡ Err k → k ≡ Truncated
 unfolding number_at
-number_fails bytes k e = at (varint_at bytes) e
-  where
-    at : (o : Option (ℕ × ℕ)) → split_number o bytes ≡ Err k → k ≡ Truncated
-    at None e = cc
-    at (Some p) e = absurd cc
+number_fails bytes k e = grind (arith, nat_tests)
 
 guard_err : {A : Type 0} (b : Bool) (k d : FaultKind) (x : A) → cond b (Err k) (Ok x) ≡ Err d → d ≡ k
 guard_err true k d x e = cc
@@ -40,11 +37,7 @@ plain_fails n bytes k e = guard_err _ Truncated k _ e
 
 counted_fails : (bytes : List ℕ) (k : FaultKind) → counted_at bytes ≡ Err k → k ≡ Truncated
 unfolding counted_at
-counted_fails bytes k e =
-    elim (bind_err (number_at bytes) (λ n. plain_at n.0 n.1) k e) [
-      | inl first ↦ number_fails bytes k first
-      | inr later ↦ plain_fails later.0.0 later.0.1 k later.2
-    ]
+counted_fails bytes k e = grind (arith, nat_tests, bind_err, number_fails, plain_fails)
 
 numbers_fail : (n : ℕ) (bytes : List ℕ) (k : FaultKind) → numbers_at n bytes ≡ Err k → k ≡ Truncated
 unfolding numbers_at
@@ -60,25 +53,11 @@ numbers_fail (suc n) bytes k e =
 
 ranges_fail : (bytes : List ℕ) (k : FaultKind) → ranges_at bytes ≡ Err k → k ≡ Truncated
 unfolding ranges_at
-ranges_fail bytes k e =
-    elim (bind_err (number_at bytes) (λ n. numbers_at (2 * n.0 + 1) n.1) k e) [
-      | inl first ↦ number_fails bytes k first
-      | inr later ↦ numbers_fail (2 * later.0.0 + 1) later.0.1 k later.2
-    ]
+ranges_fail bytes k e = grind (arith, nat_tests, bind_err, number_fails, numbers_fail)
 
 counts_fail : (bytes : List ℕ) (k : FaultKind) → counts_at bytes ≡ Err k → k ≡ Truncated
 unfolding counts_at
-counts_fail bytes k e =
-    elim (bind_err (number_at bytes) (λ p. number_at p.1 >>= λ q. number_at q.1 >>= λ r. Ok (Some (record { ect0 = p.0; ect1 = q.0; ce = r.0 }), r.1)) k e) [
-      | inl first ↦ number_fails bytes k first
-      | inr a ↦ elim (bind_err (number_at a.0.1) (λ q. number_at q.1 >>= λ r. Ok (Some (record { ect0 = a.0.0; ect1 = q.0; ce = r.0 }), r.1)) k a.2) [
-        | inl second ↦ number_fails a.0.1 k second
-        | inr b ↦ elim (bind_err (number_at b.0.1) (λ r. Ok (Some (record { ect0 = a.0.0; ect1 = b.0.0; ce = r.0 }), r.1)) k b.2) [
-          | inl third ↦ number_fails b.0.1 k third
-          | inr end ↦ absurd cc
-        ]
-      ]
-    ]
+counts_fail bytes k e = grind (arith, nat_tests, bind_err, number_fails)
 
 -- why the reading of fields fails: the bytes end, or an identifier has a bad length
 abbrev pub Fails : FaultKind → Type 0 → Type 0
@@ -90,21 +69,11 @@ not_through true r d k e = inl (refl, e)
 not_through false r d k e = inr (refl, cc)
 
 bad_length : (n : ℕ) → leb 1 n && leb n 20 ≡ false → (n ≡ 0) ⊎ (20 < n)
-bad_length zero e = inl refl
-bad_length (suc n) e =
-    elim (cases_lt 20 (suc n)) [
-      | inl high ↦ inr high
-      | inr low ↦ let good : (leb 1 (suc n) && leb (suc n) 20) ≡ true = rw (le-leb 1 (suc n) (omega arith), le-leb (suc n) 20 low) refl in absurd cc
-    ]
+bad_length n e = grind (arith, nat_tests)
 
 identifier_fails : (bytes : List ℕ) (k : FaultKind) → identifier_at bytes ≡ Err k → Fails k (FieldBad identifier bytes)
 unfolding identifier_at
-identifier_fails [] k e = inl cc
-identifier_fails (n ∷ bs) k e =
-    elim (not_through (leb 1 n && leb n 20) (plain_at n bs) IdentifierLength k e) [
-      | inl short ↦ inl (plain_fails n bs k short.1)
-      | inr bad ↦ inr (sym bad.1, (n, bs, refl, bad_length n bad.0))
-    ]
+identifier_fails bytes k e = grind (arith, nat_tests, not_through, leb, plain_fails, bad_length)
 
 field_fails : (f : Field) (bytes : List ℕ) (k : FaultKind) → field_at f bytes ≡ Err k → Fails k (FieldBad f bytes)
 field_fails number bytes k e = inl (number_fails bytes k e)
@@ -141,11 +110,7 @@ fields_fail (f ∷ fs) bytes k fits e =
 -- a bad length is found
 identifier_bad : (bytes : List ℕ) → FieldBad identifier bytes → identifier_at bytes ≡ Err IdentifierLength
 unfolding identifier_at
-identifier_bad bytes h = rw h.2 (at h.0 h.3)
-  where
-    at : (n : ℕ) → (n ≡ 0) ⊎ (20 < n) → cond (leb 1 n && leb n 20) (plain_at n h.1) (Err IdentifierLength) ≡ Err IdentifierLength
-    at n (inl none) = rw none refl
-    at n (inr many) = rw (lt-leb n 20 many, le-leb 1 n (omega arith)) refl
+identifier_bad bytes h = grind (arith, nat_tests)
 
 field_bad : (f : Field) (bytes : List ℕ) → FieldBad f bytes → field_at f bytes ≡ Err IdentifierLength
 field_bad identifier bytes h = identifier_bad bytes h
@@ -165,20 +130,14 @@ body_bad t bytes h = rw (fields_bad (layout t) bytes h) refl
 -- ---- the steps of a frame
 
 typed_err : {A : Type 0} (t : ℕ) (r : Result A FaultKind) (b : Broken) → typed t r ≡ Err b → (r ≡ Err b.kind) × (b.frame_type ≡ t)
-typed_err t (Ok y) b e = absurd cc
-typed_err t (Err k) b e =
-    let is : b ≡ record { kind = k; frame_type = t } = cc in
-    (ap (λ (x : Broken). Err x.kind) (sym is), ap (λ (x : Broken). x.frame_type) is)
+typed_err t r b e = grind (arith, nat_tests)
 
 known_err : (t : ℕ) (o : Option FrameType) (b : Broken) → known_type t o ≡ Err b → (o ≡ None) × (b ≡ record { kind = UnknownType; frame_type = t })
 known_err t None b e = (refl, cc)
 known_err t (Some s) b e = absurd cc
 
 pub checked_err : (t : ℕ) (x : FrameValue × List ℕ) (o : Option FaultKind) (b : Broken) → checked t x o ≡ Err b → (o ≡ Some b.kind) × (b.frame_type ≡ t)
-checked_err t x None b e = absurd cc
-checked_err t x (Some k) b e =
-    let is : b ≡ record { kind = k; frame_type = t } = cc in
-    (ap (λ (y : Broken). Some y.kind) (sym is), ap (λ (y : Broken). y.frame_type) is)
+checked_err t x o b e = grind (arith, nat_tests)
 
 -- ---- what is broken is a fault
 
@@ -192,21 +151,8 @@ IsRule CountTooLarge = Unit {0}
 IsRule BelowZero = Unit {0}
 IsRule _ = ⊥
 
-broke : (a k : FaultKind) (frame : FrameValue) → Breaks a frame → IsRule a → Some a ≡ Some k → Breaks k frame × IsRule k
-broke a k frame h r e = let same : a ≡ k = cc in subst (λ (j : FaultKind). Breaks j frame × IsRule j) same (h, r)
-
 breaks : (frame : FrameValue) (k : FaultKind) → breach_of frame ≡ Some k → Breaks k frame × IsRule k
-breaks (stream s o fin bytes) k e =
-    by_test (ltb (o + length bytes) (2 ^ 62)) _ _ (Some k) _ e (λ _ f. absurd cc) (λ is f. broke OffsetTooLarge k (stream s o fin bytes) (ltb-false _ _ is) tt f)
-breaks (crypto o bytes) k e =
-    by_test (ltb (o + length bytes) (2 ^ 62)) _ _ (Some k) _ e (λ _ f. absurd cc) (λ is f. broke OffsetTooLarge k (crypto o bytes) (ltb-false _ _ is) tt f)
-breaks (ack largest delay ranges ecn) k e =
-    by_test (ltb (largest + 1) (taken ranges)) _ _ (Some k) _ e (λ is f. broke BelowZero k (ack largest delay ranges ecn) (ltb-true _ _ is) tt f) (λ _ f. absurd cc)
-breaks (max_streams dir count) k e =
-    by_test (ltb (2 ^ 60) count) _ _ (Some k) _ e (λ is f. broke CountTooLarge k (max_streams dir count) (ltb-true _ _ is) tt f) (λ _ f. absurd cc)
-breaks (streams_blocked dir count) k e =
-    by_test (ltb (2 ^ 60) count) _ _ (Some k) _ e (λ is f. broke CountTooLarge k (streams_blocked dir count) (ltb-true _ _ is) tt f) (λ _ f. absurd cc)
-breaks _ k e = absurd cc
+breaks frame k e = grind (arith, nat_tests)
 
 here_from_rule : (k : FaultKind) (t : ℕ) (bytes : List ℕ) → IsRule k → BrokenShape k t bytes → FaultHere k t bytes
 here_from_rule OffsetTooLarge t bytes r h = h
@@ -239,11 +185,7 @@ type_fault (Some p) bytes b fits some at e =
 
 pub body_fails : (t : FrameType) (bytes : List ℕ) (k : FaultKind) → IsBytes bytes → body_at t bytes ≡ Err k → Fails k (FieldsBad (layout t) bytes)
 unfolding body_at
-body_fails t bytes k fits e =
-    elim (bind_err (fields_at (layout t) bytes) (λ vs. Ok (frame_of t vs.0, vs.1)) k e) [
-      | inl first ↦ fields_fail (layout t) bytes k fits first
-      | inr later ↦ absurd cc
-    ]
+body_fails t bytes k fits e = grind (arith, nat_tests, bind_err, fields_fail)
 
 -- a field ends too soon, or an identifier has a bad length
 body_fault : (bytes : List ℕ) (b : Broken) (n : ℕ) (rest : List ℕ) (type : FrameType) → 0 < length bytes → frame_at bytes ≡ Err b → TakesType bytes n rest

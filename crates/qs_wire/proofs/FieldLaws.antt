@@ -1,4 +1,5 @@
 -- What is read of fields is spelled so, and what is spelled so is read.
+use Rattle.std.proofs.lemmas.Bool.Decides.{nat_tests}
 use Rattle.std.proofs.Common.{◌≡◌, ℕ, zero, suc, ◌+◌, ◌-◌, ◌*◌, ◌≤◌, Bool, true, false, cond, ltb, leb, ◌&&◌, List, [], ◌∷◌, ◌++◌, length, take, drop, Option, Some, None, Result, Ok, Err, refl, sym, ap, subst, ◌∙◌, append_assoc, arith}
 use Rattle.std.proofs.lemmas.Bool.{ltb-false, le-ltb, leb-true, le-leb, and_parts}
 use Rattle.std.proofs.lemmas.List.{append-nil, take-append-drop, take_at, drop_at, length-append, length-drop, length-take-le}
@@ -61,27 +62,15 @@ number_takes bytes x fits e =
 -- a number that was read, and how many bytes it took
 pub number_len : (bytes : List ℕ) (v : ℕ) (after : List ℕ) → number_at bytes ≡ Ok (v, after) → varint_at bytes ≡ Some (v, length bytes - length after)
 unfolding number_at
-number_len bytes v after e =
-    let s = split_is (varint_at bytes) bytes (v, after) e in
-    let first : s.0.0 ≡ v = ap (λ (y : ℕ × List ℕ). y.0) s.2 in
-    let len : s.0.1 ≡ length bytes - length after = omega (arith, varint_within bytes s.0 s.1, length-drop s.0.1 bytes, ap (λ (y : ℕ × List ℕ). length y.1) s.2) in
-    s.1 ∙ ap (λ (k : ℕ). Some (k, s.0.1)) first ∙ ap (λ (n : ℕ). Some (v, n)) len
+number_len bytes v after e = grind (arith, nat_tests, split_is, varint_within, length-drop)
 
 pub number_rest : (bytes : List ℕ) (v : ℕ) (after : List ℕ) → number_at bytes ≡ Ok (v, after) → after ≡ drop (length bytes - length after) bytes
 unfolding number_at
-number_rest bytes v after e =
-    let s = split_is (varint_at bytes) bytes (v, after) e in
-    let is : drop s.0.1 bytes ≡ after = ap (λ (y : ℕ × List ℕ). y.1) s.2 in
-    let len : s.0.1 ≡ length bytes - length after = omega (arith, varint_within bytes s.0 s.1, length-drop s.0.1 bytes, ap length is) in
-    sym is ∙ ap (λ (n : ℕ). drop n bytes) len
+number_rest bytes v after e = grind (arith, nat_tests, split_is, varint_within, length-drop)
 
 pub number_none : (bytes : List ℕ) (kind : FaultKind) → number_at bytes ≡ Err kind → varint_at bytes ≡ None
 unfolding number_at
-number_none bytes kind e = at (varint_at bytes) e
-  where
-    at : (o : Option (ℕ × ℕ)) → split_number o bytes ≡ Err kind → o ≡ None
-    at None e = refl
-    at (Some p) e = absurd cc
+number_none bytes kind e = grind (arith, nat_tests)
 
 pub number_again : (v : ℕ) (text after : List ℕ) → Spells v text → number_at (text ++ after) ≡ Ok (v, after)
 unfolding number_at
@@ -102,9 +91,7 @@ plain_takes n bytes x fits e =
 
 plain_again : (n : ℕ) (v after : List ℕ) → length v ≡ n → plain_at n (v ++ after) ≡ Ok (v, after)
 unfolding plain_at
-plain_again n v after h =
-    let long : ltb (length (v ++ after)) n ≡ false = le-ltb _ _ (omega (arith, length-append v after)) in
-    rw (long, take_at v after n h, drop_at v after n h) refl
+plain_again n v after h = grind (arith, nat_tests, ltb, le-ltb, length-append, take_at, drop_at)
 
 counted_takes : (bytes : List ℕ) (x : List ℕ × List ℕ) → IsBytes bytes → counted_at bytes ≡ Ok x → Takes counted bytes x.0 x.1
 unfolding counted_at

@@ -1,17 +1,18 @@
 -- What is read fits: it can be written again.
-use Rattle.std.proofs.Common.{◌≡◌, ℕ, ◌+◌, ◌^◌, ◌<◌, true, false, List, [], ◌∷◌, ◌++◌, length, Option, Some, None, Ok, sym, subst, arith}
+use Rattle.std.proofs.Common.{◌≡◌, ℕ, ◌+◌, ◌^◌, ◌<◌, Bool, true, false, List, [], ◌∷◌, ◌++◌, length, Option, Some, None, Ok, refl, sym, ap, ◌∙◌, subst, arith}
 use Rattle.std.specs.List.{AllByRecursion}
 use Rattle.qs_wire.specs.declared.frame_type.FrameType.{FrameType}
 use Rattle.qs_wire.specs.declared.frame_type.FrameType.TheVariants.{Padding, Ping, Ack, ResetStream, StopSending, Crypto, NewToken, Stream, MaxData, MaxStreamData, MaxStreams, DataBlocked, StreamDataBlocked, StreamsBlocked, NewConnectionId, RetireConnectionId, PathChallenge, PathResponse, ConnectionClose, ApplicationClose, HandshakeDone}
 use Rattle.qs_wire.specs.declared.frame.EcnCounts.{EcnCounts}
-use Rattle.qs_wire.specs.Layout.{FrameValue, PlacedValue, Field, number, number_if, counted, counted_if, plain, identifier, ack_ranges, ecn_if, Value, Values, layout, frame_of}
+use Rattle.qs_wire.specs.Layout.{FrameValue, PlacedValue, stream, type_of, number_of_type, Field, number, number_if, counted, counted_if, plain, identifier, ack_ranges, ecn_if, Value, Values, layout, frame_of}
 use Rattle.qs_wire.specs.Grammar.{Begin, frames_of, FieldText, FieldsText, FrameText, Meets, Fits, NumbersText, AreRanges, EcnText, counts_of, CountsFit, IsIdentifierLength}
 use Rattle.qs_wire.specs.declared.fault.WireFault.{WireFault}
 use Rattle.qs_wire.specs.Reading.{frame_at, reading_of}
 use Rattle.qs_wire.specs.Bodies.{IsRead}
 use Rattle.qs_wire.proofs.Payloads.{is_shorter, one_more}
 use Rattle.qs_wire.proofs.PayloadLaws.{Ending, payload_read}
-use Rattle.qs_wire.proofs.Numbers.{IsBytes, Spells-below}
+use Rattle.qs_wire.proofs.Numbers.{IsBytes, Spells-below, short_byte}
+use Rattle.qs_wire.proofs.Types.{type_most, type_again}
 use Rattle.qs_wire.proofs.Shapes.{frame_takes}
 
 abbrev FieldBelow : (f : Field) → Value f → Type 0
@@ -74,6 +75,41 @@ frame_fits PathResponse vs h m = h.0
 frame_fits ConnectionClose vs h m = (h.0, h.1.0, h.1.1.0)
 frame_fits ApplicationClose vs h m = (h.0, h.1.0)
 frame_fits HandshakeDone vs h m = tt
+
+-- only a type of STREAM makes a STREAM frame
+stream_type : (t : FrameType) (vs : Values (layout t)) (id offset : ℕ) (fin : Bool) (sent : List ℕ) → frame_of t vs ≡ stream id offset fin sent
+    → (off : Bool) × (len : Bool) × (last : Bool) × (t ≡ Stream off len last)
+stream_type (Stream off len last) vs id offset fin sent e = (off, len, last, refl)
+stream_type _ vs id offset fin sent e = absurd cc
+
+-- where a STREAM frame begins the bytes, the first one is its type
+pub record StreamFront (bytes : List ℕ) : Type 0 where
+  pub byte : ℕ
+  pub behind : List ℕ
+  pub parts : bytes ≡ byte ∷ behind
+  pub below : byte < 64
+  pub off : Bool
+  pub len : Bool
+  pub last : Bool
+  pub typed : type_of byte ≡ Some (Stream off len last)
+
+pub stream_front : (bytes : List ℕ) (type id offset : ℕ) (fin : Bool) (sent rest : List ℕ) → IsBytes bytes → frame_at bytes ≡ Ok (type, stream id offset fin sent, rest) → StreamFront bytes
+stream_front bytes type id offset fin sent rest fits e =
+    let taken = (frame_takes bytes (type, stream id offset fin sent, rest) fits e).taken in
+    let s = taken.shape in
+    let is = stream_type s.type s.values id offset fin sent s.is_frame in
+    let n = number_of_type s.type in
+    let below : n < 64 = omega (arith, type_most s.type) in
+    record {
+      byte = n;
+      behind = s.body ++ rest;
+      parts = taken.parts ∙ ap (λ (t : List ℕ). t ++ rest) (s.parts ∙ ap (λ (t : List ℕ). t ++ s.body) (short_byte n below));
+      below = below;
+      off = is.0;
+      len = is.1;
+      last = is.2;
+      typed = type_again s.type ∙ ap (λ (t : FrameType). Some t) is.3;
+    }
 
 pub text_fits : (frame : FrameValue) (text after : List ℕ) → FrameText frame text after → Fits frame
 text_fits frame text after h =

@@ -1,9 +1,9 @@
 -- The numbers of variable length: what is read is spelled so, and what is spelled so is read.
-use Rattle.std.proofs.Common.{◌≡◌, ℕ, ◌+◌, ◌*◌, ◌%◌, ◌^◌, ◌<◌, ◌≤◌, Bool, true, false, cond, ltb, List, [], ◌∷◌, ◌++◌, length, get_or, take, drop, Option, Some, None, refl, sym, ap, subst, ◌∙◌, arith, inl, inr}
+use Rattle.std.proofs.lemmas.Bool.Decides.{nat_tests}
+use Rattle.std.proofs.Common.{◌≡◌, ℕ, ◌+◌, ◌*◌, ◌%◌, ◌^◌, ◌<◌, ◌≤◌, Bool, true, false, cond, ltb, List, [], ◌∷◌, ◌++◌, length, get_or, take, drop, Option, Some, None, refl, sym, ap, subst, ◌∙◌, arith}
 use Rattle.std.specs.Prelude.{IfSome, IfNone}
-use Rattle.std.proofs.lemmas.Bool.{cases_lt, ltb-false, lt-ltb, le-ltb}
-use Rattle.std.proofs.lemmas.List.{length-append, length-take, get_or-drop, get_or-take, get_or_past, length-take-le}
-use Rattle.std.proofs.lemmas.Nat.{be_bytes_2, be_bytes_4, be_bytes_8}
+use Rattle.std.proofs.lemmas.Bool.{ltb-false}
+use Rattle.std.proofs.lemmas.List.{length-append, get_or-drop}
 use Rattle.byteorder.specs.Endian.{big_number}
 use Rattle.byteorder.specs.Numbers.{length-bytes_high_first, big_number-reads_back}
 use Rattle.qs_wire.specs.Varint.{Size, one, two, four, eight, byte_count, mark, room, spelling, Spells, least_size, short, short_len, size_at, varint_at}
@@ -14,13 +14,6 @@ IsBytes bytes = (i : ℕ) → get_or bytes i 0 < 256
 pub IsBytes-drop : (n : ℕ) (bytes : List ℕ) → IsBytes bytes → IsBytes (drop n bytes)
 IsBytes-drop n bytes h i = rw get_or-drop (h (n + i))
 
-pub IsBytes-take : (n : ℕ) (bytes : List ℕ) → IsBytes bytes → IsBytes (take n bytes)
-IsBytes-take n bytes h i =
-    elim (cases_lt i n) [
-      | inl lt ↦ rw (get_or-take n bytes i 0 lt) (h i)
-      | inr le ↦ rw (get_or_past (take n bytes) i 0 (omega (arith, length-take n bytes))) (omega arith)
-    ]
-
 -- the first byte is of that size
 abbrev HasMark : Size → ℕ → Type 0
 HasMark one b = b < 64
@@ -29,59 +22,22 @@ HasMark four b = (128 ≤ b) × (b < 192)
 HasMark eight b = (192 ≤ b) × (b < 256)
 
 has_mark : (b : ℕ) → b < 256 → HasMark (size_at b) b
-has_mark b below =
-    elim (cases_lt b 64) [
-      | inl h ↦ rw (lt-ltb b 64 h) h
-      | inr h ↦ elim (cases_lt b 128) [
-        | inl k ↦ rw (le-ltb b 64 h, lt-ltb b 128 k) (h, k)
-        | inr k ↦ elim (cases_lt b 192) [
-          | inl l ↦ rw (le-ltb b 64 h, le-ltb b 128 k, lt-ltb b 192 l) (k, l)
-          | inr l ↦ rw (le-ltb b 64 h, le-ltb b 128 k, le-ltb b 192 l) (l, below)
-        ]
-      ]
-    ]
-
-size_from_mark : (s : Size) (b : ℕ) → HasMark s b → size_at b ≡ s
-size_from_mark one b h = rw (lt-ltb b 64 h) refl
-size_from_mark two b h = rw (le-ltb b 64 h.0, lt-ltb b 128 h.1) refl
-size_from_mark four b h =
-    let p : 64 ≤ b = omega arith in
-    rw (le-ltb b 64 p, le-ltb b 128 h.0, lt-ltb b 192 h.1) refl
-size_from_mark eight b h =
-    let p : 64 ≤ b = omega arith in
-    let q : 128 ≤ b = omega arith in
-    rw (le-ltb b 64 p, le-ltb b 128 q, le-ltb b 192 h.0) refl
+has_mark b below = grind (arith, nat_tests)
 
 -- what the front of the bytes says, spelled again, is that front
 front_is : (s : Size) (bytes : List ℕ) → IsBytes bytes → byte_count s ≤ length bytes → HasMark s (get_or bytes 0 0)
     → spelling s (big_number (byte_count s) bytes % room s) ≡ take (byte_count s) bytes
-front_is one (b ∷ bs) fits long m = ap (λ (x : ℕ). x ∷ []) (omega arith)
-front_is one [] fits long m = absurd (omega arith)
-front_is two bytes fits long m =
-    be_bytes_2 (take 2 bytes) _ (length-take-le 2 bytes long) (IsBytes-take 2 bytes fits)
-    (omega (arith, fits 0, fits 1, get_or-take 2 bytes 0 0 (omega arith), get_or-take 2 bytes 1 0 (omega arith)))
-front_is four bytes fits long m =
-    be_bytes_4 (take 4 bytes) _ (length-take-le 4 bytes long) (IsBytes-take 4 bytes fits)
-    (omega (arith, fits 0, fits 1, fits 2, fits 3, get_or-take 4 bytes 0 0 (omega arith), get_or-take 4 bytes 1 0 (omega arith), get_or-take 4 bytes 2 0 (omega arith), get_or-take 4 bytes 3 0 (omega arith)))
-front_is eight bytes fits long m =
-    be_bytes_8 (take 8 bytes) _ (length-take-le 8 bytes long) (IsBytes-take 8 bytes fits)
-    (omega (arith, fits 0, fits 1, fits 2, fits 3, fits 4, fits 5, fits 6, fits 7, get_or-take 8 bytes 0 0 (omega arith), get_or-take 8 bytes 1 0 (omega arith), get_or-take 8 bytes 2 0 (omega arith), get_or-take 8 bytes 3 0 (omega arith), get_or-take 8 bytes 4 0 (omega arith), get_or-take 8 bytes 5 0 (omega arith), get_or-take 8 bytes 6 0 (omega arith), get_or-take 8 bytes 7 0 (omega arith)))
+front_is s bytes fits long m = grind (arith, nat_tests)
 
 some_is : {A : Type 0} (b : Bool) (x y : A) → cond b None (Some x) ≡ Some y → (b ≡ false) × (x ≡ y)
 some_is true x y e = absurd cc
 some_is false x y e = (refl, cc)
 
 mod_room : (s : Size) (n : ℕ) → n % room s < room s
-mod_room one n = omega arith
-mod_room two n = omega arith
-mod_room four n = omega arith
-mod_room eight n = omega arith
+mod_room s n = grind (arith, nat_tests)
 
 count_positive : (s : Size) → 0 < byte_count s
-count_positive one = omega arith
-count_positive two = omega arith
-count_positive four = omega arith
-count_positive eight = omega arith
+count_positive s = grind (arith, nat_tests)
 
 -- what a number took from the front of the bytes
 pub record TakesNumber (bytes : List ℕ) (v n : ℕ) : Type 0 where
@@ -109,28 +65,16 @@ varint_takes (b ∷ bs) x fits e =
 varint_at_is : (s : Size) (bytes : List ℕ) → HasMark s (get_or bytes 0 0) → byte_count s ≤ length bytes
     → varint_at bytes ≡ Some (big_number (byte_count s) bytes % room s, byte_count s)
 unfolding varint_at
-varint_at_is s [] m long = absurd (omega (arith, count_positive s))
-varint_at_is s (b ∷ bs) m long =
-    let size = size_from_mark s b m in
-    rw (size, le-ltb (length (b ∷ bs)) (byte_count s) long) refl
+varint_at_is s bytes m long = grind (arith, nat_tests)
 
 spelled_below : (s : Size) (v : ℕ) → v < room s → mark s * room s + v < 256 ^ byte_count s
-spelled_below one v h = omega arith
-spelled_below two v h = omega arith
-spelled_below four v h = omega arith
-spelled_below eight v h = omega arith
+spelled_below s v h = grind (arith, nat_tests)
 
 spelled_mark : (s : Size) (v : ℕ) (after : List ℕ) → v < room s → HasMark s (get_or (spelling s v ++ after) 0 0)
-spelled_mark one v after h = omega arith
-spelled_mark two v after h = (omega arith, omega arith)
-spelled_mark four v after h = (omega arith, omega arith)
-spelled_mark eight v after h = (omega arith, omega arith)
+spelled_mark s v after h = grind (arith, nat_tests)
 
 spelled_value : (s : Size) (v : ℕ) → v < room s → (mark s * room s + v) % room s ≡ v
-spelled_value one v h = omega arith
-spelled_value two v h = omega arith
-spelled_value four v h = omega arith
-spelled_value eight v h = omega arith
+spelled_value s v h = grind (arith, nat_tests)
 
 pub length-spelling : (s : Size) (v : ℕ) → length (spelling s v) ≡ byte_count s
 length-spelling s v = length-bytes_high_first (byte_count s) (mark s * room s + v)
@@ -147,17 +91,7 @@ varint_again v text after h =
 -- ---- the shortest spelling
 
 least_room : (v : ℕ) → v < 2 ^ 62 → v < room (least_size v)
-least_room v below =
-    elim (cases_lt v (2 ^ 6)) [
-      | inl h ↦ rw (lt-ltb v (2 ^ 6) h) h
-      | inr h ↦ elim (cases_lt v (2 ^ 14)) [
-        | inl k ↦ rw (le-ltb v (2 ^ 6) h, lt-ltb v (2 ^ 14) k) k
-        | inr k ↦ elim (cases_lt v (2 ^ 30)) [
-          | inl l ↦ rw (le-ltb v (2 ^ 6) h, le-ltb v (2 ^ 14) k, lt-ltb v (2 ^ 30) l) l
-          | inr l ↦ rw (le-ltb v (2 ^ 6) h, le-ltb v (2 ^ 14) k, le-ltb v (2 ^ 30) l) below
-        ]
-      ]
-    ]
+least_room v below = grind (arith, nat_tests)
 
 pub short_spells : (v : ℕ) → v < 2 ^ 62 → Spells v (short v)
 unfolding short
@@ -171,53 +105,13 @@ pub short_positive : (v : ℕ) → 0 < length (short v)
 unfolding short
 short_positive v = omega (arith, length-spelling (least_size v) v, count_positive (least_size v))
 
-same_size : (s r : Size) → byte_count s ≡ byte_count r → s ≡ r
-same_size one one e = refl
-same_size one two e = absurd (omega arith)
-same_size one four e = absurd (omega arith)
-same_size one eight e = absurd (omega arith)
-same_size two one e = absurd (omega arith)
-same_size two two e = refl
-same_size two four e = absurd (omega arith)
-same_size two eight e = absurd (omega arith)
-same_size four one e = absurd (omega arith)
-same_size four two e = absurd (omega arith)
-same_size four four e = refl
-same_size four eight e = absurd (omega arith)
-same_size eight one e = absurd (omega arith)
-same_size eight two e = absurd (omega arith)
-same_size eight four e = absurd (omega arith)
-same_size eight eight e = refl
-
 -- a spelling as long as the shortest is the shortest
 pub short_from_length : (v : ℕ) (text : List ℕ) → Spells v text → length text ≡ short_len v → text ≡ short v
 unfolding short short_len
-short_from_length v text h e =
-    let len : byte_count h.0 ≡ byte_count (least_size v) = sym (length-spelling h.0 v) ∙ ap length (sym h.2) ∙ e in
-    h.2 ∙ ap (λ (s : Size). spelling s v) (same_size h.0 (least_size v) len)
+short_from_length v text h e = grind (arith, nat_tests)
 
 least_count : (s : Size) (v : ℕ) → v < room s → byte_count (least_size v) ≤ byte_count s
-least_count one v h = rw (lt-ltb v (2 ^ 6) h) (omega arith)
-least_count two v h =
-    elim (cases_lt v (2 ^ 6)) [
-      | inl a ↦ rw (lt-ltb v (2 ^ 6) a) (omega arith)
-      | inr a ↦ rw (le-ltb v (2 ^ 6) a, lt-ltb v (2 ^ 14) h) (omega arith)
-    ]
-least_count four v h =
-    elim (cases_lt v (2 ^ 6)) [
-      | inl a ↦ rw (lt-ltb v (2 ^ 6) a) (omega arith)
-      | inr a ↦ elim (cases_lt v (2 ^ 14)) [
-        | inl b ↦ rw (le-ltb v (2 ^ 6) a, lt-ltb v (2 ^ 14) b) (omega arith)
-        | inr b ↦ rw (le-ltb v (2 ^ 6) a, le-ltb v (2 ^ 14) b, lt-ltb v (2 ^ 30) h) (omega arith)
-      ]
-    ]
-least_count eight v h = at (least_size v)
-  where
-    at : (s : Size) → byte_count s ≤ 8
-    at one = omega arith
-    at two = omega arith
-    at four = omega arith
-    at eight = omega arith
+least_count s v h = grind (arith, nat_tests)
 
 -- no spelling is shorter than the shortest
 pub short_least : (v : ℕ) (text : List ℕ) → Spells v text → length (short v) ≤ length text
@@ -227,23 +121,14 @@ short_least v text h = omega (arith, length-spelling (least_size v) v, ap length
 -- a small number is its own spelling
 pub short_byte : (v : ℕ) → v < 64 → short v ≡ v ∷ []
 unfolding short
-short_byte v below =
-    let size : least_size v ≡ one = rw (lt-ltb v (2 ^ 6) below) refl in
-    let plain : spelling one v ≡ v ∷ [] = ap (λ (x : ℕ). x ∷ []) (omega arith) in
-    ap (λ (s : Size). spelling s v) size ∙ plain
+short_byte v below = grind (arith, nat_tests)
 
 pub short_most : (v : ℕ) → v < 2 ^ 62 → length (short v) ≤ 8
 unfolding short
 short_most v below = omega (arith, length-spelling (least_size v) v, least_count eight v below)
 
 pub Spells-below : (v : ℕ) (text : List ℕ) → Spells v text → v < 2 ^ 62
-Spells-below v text h = below h.0 v h.1
-  where
-    below : (s : Size) (v : ℕ) → v < room s → v < 2 ^ 62
-    below one v h = omega arith
-    below two v h = omega arith
-    below four v h = omega arith
-    below eight v h = h
+Spells-below v text h = grind (arith, nat_tests)
 
 -- ---- what a call returned
 
@@ -270,10 +155,4 @@ parse_positive bytes (Some x) fits e = (varint_takes bytes x fits (sym e)).posit
 -- a number that is read is there, whatever the bytes
 pub varint_within : (bytes : List ℕ) (x : ℕ × ℕ) → varint_at bytes ≡ Some x → (0 < x.1) × (x.1 ≤ length bytes)
 unfolding varint_at
-varint_within [] x e = absurd cc
-varint_within (b ∷ bs) x e =
-    let s = size_at b in
-    let bytes = b ∷ bs in
-    let g = some_is (ltb (length bytes) (byte_count s)) (big_number (byte_count s) bytes % room s, byte_count s) x e in
-    let made : (0 < byte_count s) × (byte_count s ≤ length bytes) = (count_positive s, ltb-false _ _ g.0) in
-    subst (λ (p : ℕ × ℕ). (0 < p.1) × (p.1 ≤ length bytes)) g.1 made
+varint_within bytes x e = grind (arith, nat_tests)

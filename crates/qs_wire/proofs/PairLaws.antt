@@ -1,5 +1,6 @@
 -- The numbers that spell ranges, and the ranges that numbers spell.
-use Rattle.std.proofs.Common.{◌≡◌, ℕ, zero, suc, get_or, ◌+◌, ◌-◌, ◌*◌, ◌/◌, ◌^◌, ◌<◌, ◌≤◌, List, [], ◌∷◌, ◌++◌, length, map, take, drop, refl, sym, ap, ◌∙◌, append_assoc, arith}
+use Rattle.std.proofs.lemmas.Bool.Decides.{nat_tests}
+use Rattle.std.proofs.Common.{◌≡◌, ℕ, zero, suc, get_or, ◌+◌, ◌-◌, ◌*◌, ◌^◌, ◌<◌, ◌≤◌, List, [], ◌∷◌, ◌++◌, length, map, take, drop, refl, sym, ap, ◌∙◌, append_assoc, arith}
 use Rattle.std.specs.List.{flat_map, AllByRecursion}
 use Rattle.std.proofs.lemmas.List.{append-nil, length-append, length-drop, length-take-le, take_more}
 use Rattle.std.proofs.lemmas.List.Concat.{flat_map-append}
@@ -57,12 +58,7 @@ text_more_len smallest ps i d lt =
 -- one range more, as a loop spells it
 pub next_text : (smallest : ℕ) (ps : List (ℕ × ℕ)) (i : ℕ) (d : ℕ × ℕ) (above a b : ℕ) → i < length ps → above ≡ last_below smallest (take i ps)
     → a ≡ (above - (get_or ps i d).1) - 1 → b ≡ ((get_or ps i d).1 - 1) - (get_or ps i d).0 → text_below smallest (take (i + 1) ps) ≡ (text_below smallest (take i ps) ++ short a) ++ short b
-next_text smallest ps i d above a b lt is gap len =
-    let p = get_or ps i d in
-    let front = text_below smallest (take i ps) in
-    let end = short ((p.1 - 1) - p.0) in
-    text_more smallest ps i d lt ∙ ap (λ (x : ℕ). (front ++ short ((x - p.1) - 1)) ++ end) (sym is)
-    ∙ ap (λ (x : ℕ). (front ++ short x) ++ end) (sym gap) ∙ ap (λ (x : ℕ). (front ++ short a) ++ short x) (sym len)
+next_text smallest ps i d above a b lt is gap len = grind (arith, nat_tests, text_more)
 
 pub length-next_text : (front : List ℕ) (a b : ℕ) (all : List ℕ) → all ≡ (front ++ short a) ++ short b → length all ≡ length front + length (short a) + length (short b)
 length-next_text front a b all is = omega (arith, ap length is, length-append (front ++ short a) (short b), length-append front (short a))
@@ -115,27 +111,10 @@ first_text delay p others = short 2 ++ (short (p.1 - 1) ++ (short delay ++ (shor
 
 pub ack_text : (delay : ℕ) (p : ℕ × ℕ) (ps : List (ℕ × ℕ)) → canonical (ack_of delay (p ∷ ps)) ≡ first_text delay p (length ps) ++ text_below p.0 ps
 unfolding canonical
-ack_text delay p ps =
-    let count : (suc (length (gaps_below p.0 ps)) - 1) / 2 ≡ length ps = omega (arith, length-gaps p.0 ps) in
-    let a = short (p.1 - 1) in
-    let l = short ((p.1 - 1) - p.0) in
-    ap (λ (n : ℕ). short 2 ++ (a ++ (short delay ++ ((short n ++ (l ++ text_below p.0 ps)) ++ [])))) count
-    ∙ sym (regroup (short 2) a (short delay) (short (length ps)) l (text_below p.0 ps))
+ack_text delay p ps = grind (arith, nat_tests, length-gaps, regroup)
 
 pub length-first_text : (delay : ℕ) (p : ℕ × ℕ) (others : ℕ) → others < 64 → length (first_text delay p others) ≡ length (short (p.1 - 1)) + length (short ((p.1 - 1) - p.0)) + length (short delay) + 2
-length-first_text delay p others few =
-    let a = short (p.1 - 1) in
-    let l = short ((p.1 - 1) - p.0) in
-    omega (
-      arith,
-      ap length (short_byte 2 (omega arith)),
-      ap length (short_byte others few),
-      length-append (short 2) (a ++ (short delay ++ (short others ++ (l ++ [])))),
-      length-append a (short delay ++ (short others ++ (l ++ []))),
-      length-append (short delay) (short others ++ (l ++ [])),
-      length-append (short others) (l ++ []),
-      length-append l [],
-    )
+length-first_text delay p others few = grind (arith, nat_tests, short_byte, length-append)
 
 -- ---- the ACK of the first ranges, as a call finds it
 
@@ -145,13 +124,7 @@ top pairs = get_or pairs 0 (0, 0)
 
 pub ack_take : (delay : ℕ) (pairs others : List (ℕ × ℕ)) (k : ℕ) → 0 < length pairs → others ≡ drop 1 pairs → k ≤ length others
     → canonical (ack_of delay (take (k + 1) pairs)) ≡ first_text delay (top pairs) k ++ text_below (top pairs).0 (take k others)
-ack_take delay [] others k some is le = absurd (omega arith)
-ack_take delay (p ∷ ps) others k some is le =
-    let next : k + 1 ≡ suc k = omega arith in
-    let fits : k ≤ length ps = omega (arith, ap length is) in
-    ap (λ (n : ℕ). canonical (ack_of delay (take n (p ∷ ps)))) next ∙ ack_text delay p (take k ps)
-    ∙ ap (λ (n : ℕ). first_text delay p n ++ text_below p.0 (take k ps)) (length-take-le k ps fits)
-    ∙ ap (λ (qs : List (ℕ × ℕ)). first_text delay p k ++ text_below p.0 (take k qs)) (sym is)
+ack_take delay pairs others k some is le = grind (arith, nat_tests, ack_text, length-take-le)
 
 pub length-ack_take : (delay : ℕ) (pairs others : List (ℕ × ℕ)) (k : ℕ) → AreAckPairs pairs → others ≡ drop 1 pairs → k ≤ length others
     → length (canonical (ack_of delay (take (k + 1) pairs))) ≡ length (short ((top pairs).1 - 1)) + length (short (((top pairs).1 - 1) - (top pairs).0)) + length (short delay) + 2 + length (text_below (top pairs).0 (take k others))
@@ -162,9 +135,7 @@ length-ack_take delay pairs others k h is le =
 -- ---- the ranges of an ACK
 
 first_is : (s : ℕ) (p : ℕ × ℕ) → p.0 < p.1 → s ≡ p.1 - 1 → (s - ((p.1 - 1) - p.0), s) ≡ inclusive p
-first_is s p some is =
-    let low : s - ((p.1 - 1) - p.0) ≡ p.0 = omega arith in
-    ap (λ (a : ℕ). (a, s)) low ∙ ap (λ (b : ℕ). (p.0, b)) is
+first_is s p some is = grind (arith, nat_tests)
 
 ranges_below : (s : ℕ) (ps : List (ℕ × ℕ)) (p : ℕ × ℕ) → p.0 < p.1 → s ≡ p.1 - 1 → AreApartBelow p.0 ps
     → ack_ranges_of s (((p.1 - 1) - p.0) ∷ gaps_below p.0 ps) ≡ map inclusive (p ∷ ps)

@@ -1,4 +1,5 @@
 -- The reading of a payload is that of the grammar.
+use Rattle.std.proofs.lemmas.Bool.Decides.{nat_tests}
 use Rattle.std.proofs.Common.{◌≡◌, ℕ, zero, suc, ◌+◌, ◌/◌, ◌-◌, ◌^◌, ◌<◌, ◌≤◌, List, [], ◌∷◌, ◌++◌, length, Bool, true, false, ltb, MatchOption, Option, Some, None, is_some, Result, Ok, Err, refl, sym, ap, subst, ◌∙◌, arith}
 use Rattle.std.specs.List.{flat_map, AllByRecursion}
 use Rattle.std.proofs.lemmas.Bool.{ltb-false}
@@ -118,9 +119,7 @@ placed_again (p ∷ ps) [] h = absurd (omega (arith, ap length h.1.2, length-app
 placed_again (p ∷ ps) (b ∷ bs) h = begin_again (p ∷ ps) (length (b ∷ bs)) 0 (b ∷ bs) (omega arith) h.1
 
 pub payload_again : (fs : List FrameValue) (payload : List ℕ) → PayloadText fs payload → (frames_of (reading_of payload).left ≡ fs) × ((reading_of payload).fault ≡ None)
-payload_again fs payload h =
-    let e = placed_again h.0 payload h.1 in
-    (ap (λ (r : Reading). frames_of r.left) e ∙ h.2, ap (λ (r : Reading). r.fault) e)
+payload_again fs payload h = grind (arith, nat_tests, placed_again)
 
 -- ---- the canonical text
 
@@ -215,12 +214,7 @@ spelled_is padding = refl
 spelled_is _ = refl
 
 fits_meets : (frame : FrameValue) → Fits frame → Meets frame
-fits_meets (stream s o fin bytes) h = h.1
-fits_meets (crypto o bytes) h = h
-fits_meets (ack largest delay ranges ecn) h = h.3
-fits_meets (max_streams dir count) h = h
-fits_meets (streams_blocked dir count) h = h
-fits_meets _ h = tt
+fits_meets frame h = grind (arith, nat_tests)
 
 pub canonical_text : (frame : FrameValue) (after : List ℕ) → Fits frame → FrameText frame (canonical frame) after
 unfolding canonical

@@ -1,11 +1,13 @@
 -- The frames of a payload: the reading of its bytes, frame by frame.
+use Rattle.std.proofs.lemmas.Bool.Decides.{nat_tests}
 use Rattle.std.proofs.Common.{◌≡◌, ℕ, zero, suc, ◌+◌, ◌-◌, ◌<◌, ◌≤◌, List, [], ◌∷◌, length, Some, None, Result, Ok, Err, refl, sym, ap, ◌∙◌, arith}
 use Rattle.std.proofs.lemmas.List.{length-append}
 use Rattle.qs_wire.specs.declared.fault.FaultKind.TheVariants.{Empty}
 use Rattle.qs_wire.specs.declared.fault.WireFault.{WireFault}
 use Rattle.qs_wire.specs.declared.reading.Broken.{Broken}
-use Rattle.qs_wire.specs.Layout.{FrameValue}
-use Rattle.qs_wire.specs.Reading.{Reading, with_first, placed_at, fault_at, one_frame, frame_at, frames_at, reading_from}
+use Rattle.qs_wire.specs.Layout.{FrameValue, PlacedValue, stream}
+use Rattle.qs_wire.specs.Reading.{Reading, NoStreamNext, with_first, placed_at, fault_at, one_frame, frame_at, frames_at, reading_from}
+use Rattle.qs_wire.specs.Bodies.{NoStreamAt}
 use Rattle.qs_wire.proofs.Numbers.{IsBytes}
 use Rattle.qs_wire.proofs.Shapes.{frame_takes}
 
@@ -40,9 +42,7 @@ reading_from-is (suc place) bytes lt = refl
 
 reading_from-some : (place : ℕ) (bytes : List ℕ) → 0 < length bytes → reading_from place bytes ≡ frames_at (length bytes) place bytes
 unfolding reading_from
-reading_from-some place [] lt = absurd (omega arith)
-reading_from-some zero (b ∷ bs) lt = refl
-reading_from-some (suc place) (b ∷ bs) lt = refl
+reading_from-some place bytes lt = grind (arith, nat_tests)
 
 -- one frame is read, and the others follow it
 pub one_more : (place : ℕ) (bytes : List ℕ) (x : ℕ × FrameValue × List ℕ) → IsBytes bytes → frame_at bytes ≡ Ok x
@@ -66,6 +66,20 @@ unfolding frames_at
 at_fault place [] e some is = absurd (omega arith)
 at_fault place (b ∷ bs) e some is = reading_from-some place (b ∷ bs) some ∙ ap (one_frame place (b ∷ bs) (frames_at (length bs))) is
 
+-- where no STREAM frame begins the bytes, none is next
+pub none_next : (place : ℕ) (bytes : List ℕ) → NoStreamAt bytes → NoStreamNext (reading_from place bytes)
+unfolding reading_from frames_at
+none_next zero [] none spot type id offset fin sent more e = absurd (cc (ap (λ (r : Reading). r.left) e))
+none_next (suc place) [] none spot type id offset fin sent more e = absurd (cc (ap (λ (r : Reading). r.left) e))
+none_next place (b ∷ bs) none spot type id offset fin sent more e = at (frame_at (b ∷ bs)) refl (ap (λ (r : Reading). r.left) (sym (reading_from-some place (b ∷ bs) (omega arith)) ∙ e))
+  where
+    at : (r : Result (ℕ × FrameValue × List ℕ) Broken) → frame_at (b ∷ bs) ≡ r
+        → (one_frame place (b ∷ bs) (frames_at (length bs)) r).left ≡ placed_at spot type (stream id offset fin sent) ∷ more.left → ⊥
+    at (Err b) is e = absurd cc
+    at (Ok x) is e =
+        let first : placed_at place x.0 x.1 ≡ placed_at spot type (stream id offset fin sent) = cc in
+        none x.0 id offset fin sent x.2 (is ∙ ap (λ (f : FrameValue). Ok (x.0, f, x.2)) (ap (λ (p : PlacedValue). p.frame) first))
+
 pub at_end : (place : ℕ) (bytes : List ℕ) → 0 < place → length bytes ≡ 0 → reading_from place bytes ≡ record { left = []; fault = None }
 unfolding frames_at
 at_end place [] lt e = reading_from-is place [] lt
@@ -73,6 +87,4 @@ at_end place (b ∷ bs) lt e = absurd (omega arith)
 
 pub at_start : (place : ℕ) (bytes : List ℕ) → place ≤ 0 → length bytes ≡ 0 → reading_from place bytes ≡ stopped (fault_at place (record { kind = Empty; frame_type = 0 }))
 unfolding reading_from
-at_start zero [] le e = refl
-at_start (suc place) bytes le e = absurd (omega arith)
-at_start zero (b ∷ bs) le e = absurd (omega arith)
+at_start place bytes le e = grind (arith, nat_tests)

@@ -1,7 +1,7 @@
 -- The numbers of an ACK, one after the other.
-use Rattle.std.proofs.Common.{◌≡◌, ℕ, zero, suc, ◌+◌, ◌-◌, ◌<◌, ◌≤◌, List, [], ◌∷◌, ◌++◌, length, take, drop, Option, Some, None, Result, Ok, Err, eqb, ltb, refl, sym, ap, ◌∙◌, append_assoc, arith, inl, inr}
+use Rattle.std.proofs.lemmas.Bool.Decides.{nat_tests}
+use Rattle.std.proofs.Common.{◌≡◌, ℕ, zero, suc, ◌+◌, ◌-◌, ◌<◌, ◌≤◌, List, [], ◌∷◌, ◌++◌, length, take, drop, Option, Some, None, Result, Ok, Err, eqb, ltb, refl, sym, ap, ◌∙◌, append_assoc, arith}
 use Rattle.std.specs.List.{flat_map}
-use Rattle.std.proofs.lemmas.Bool.{cases_lt, lt-ltb, le-ltb, eq-eqb, ne_eqb}
 use Rattle.std.proofs.lemmas.List.{append-nil, length-append, length-drop, take_at, drop_at}
 use Rattle.std.proofs.lemmas.List.Concat.{flat_map-cons}
 use Rattle.qs_wire.specs.declared.fault.FaultKind.{FaultKind}
@@ -38,12 +38,7 @@ numbers_within-enough (suc n) (suc m) bytes hn hm = at (varint_at bytes) refl (�
 
 pub numbers_of-next : (bytes : List ℕ) (x : ℕ × ℕ) → varint_at bytes ≡ Some x → numbers_of bytes ≡ x.0 ∷ numbers_of (drop x.1 bytes)
 unfolding numbers_of numbers_within
-numbers_of-next [] x e = absurd (omega (arith, varint_within [] x e))
-numbers_of-next (b ∷ bs) x e =
-    let w = varint_within (b ∷ bs) x e in
-    let len = length-drop x.1 (b ∷ bs) in
-    ap (next_number (b ∷ bs) (numbers_within (length bs))) e
-    ∙ ap (λ (vs : List ℕ). x.0 ∷ vs) (numbers_within-enough (length bs) (length (drop x.1 (b ∷ bs))) (drop x.1 (b ∷ bs)) (omega (arith, w, len)) (omega arith))
+numbers_of-next bytes x e = grind (arith, nat_tests, varint_within, length-drop, numbers_within-enough)
 
 pub numbers_of-none : (bytes : List ℕ) → varint_at bytes ≡ None → numbers_of bytes ≡ []
 unfolding numbers_of numbers_within
@@ -73,11 +68,7 @@ with_front front read = read >>= λ x. Ok (front ++ x.0, x.1)
 
 -- no number yet
 pub none_yet : (count : ℕ) (bytes : List ℕ) → with_front [] (numbers_at (count - 0) bytes) ≡ numbers_at count bytes
-none_yet count bytes = at (numbers_at (count - 0) bytes) ∙ ap (λ (n : ℕ). numbers_at n bytes) (omega arith)
-  where
-    at : (r : Result (List ℕ × List ℕ) FaultKind) → with_front [] r ≡ r
-    at (Ok x) = refl
-    at (Err k) = refl
+none_yet count bytes = grind (arith, nat_tests)
 
 regroup : (front : List ℕ) (v : ℕ) (read : Result (List ℕ × List ℕ) FaultKind) → with_front front (read >>= λ x. Ok (v ∷ x.0, x.1)) ≡ with_front (front ++ v ∷ []) read
 regroup front v (Ok x) = ap (λ (vs : List ℕ). Ok (vs, x.1)) (simp append_assoc)
@@ -94,17 +85,11 @@ goes_on front count i bytes v after total lt h so_far =
 pub ends : (e : FaultKind) (front : List ℕ) (count i : ℕ) (bytes : List ℕ) (total : Result (List ℕ × List ℕ) FaultKind) → i < count → number_at bytes ≡ Err e
     → with_front front (numbers_at (count - i) bytes) ≡ total → total ≡ Err e
 unfolding numbers_at
-ends e front count i bytes total lt h so_far =
-    let k : count - i ≡ suc (count - (i + 1)) = omega arith in
-    let one : with_front front (numbers_at (count - i) bytes) ≡ Err e = rw (k, h) refl in
-    sym so_far ∙ one
+ends e front count i bytes total lt h so_far = grind (arith, nat_tests)
 
 pub is_done : (front : List ℕ) (count i : ℕ) (bytes : List ℕ) (total : Result (List ℕ × List ℕ) FaultKind) → count ≤ i → with_front front (numbers_at (count - i) bytes) ≡ total → total ≡ Ok (front, bytes)
 unfolding numbers_at
-is_done front count i bytes total le so_far =
-    let k : count - i ≡ 0 = omega arith in
-    let one : with_front front (numbers_at (count - i) bytes) ≡ Ok (front, bytes) = rw k (ap (λ (vs : List ℕ). Ok (vs, bytes)) (append-nil front)) in
-    sym so_far ∙ one
+is_done front count i bytes total le so_far = grind (arith, nat_tests, append-nil)
 
 -- ---- what ranges take from the largest number
 
@@ -115,11 +100,7 @@ taken_more (w ∷ vs) v = omega (arith, taken_more vs v)
 
 -- nothing is left of the limit where the ranges fall below zero
 pub falls_is : (largest left : ℕ) (vs ws : List ℕ) → left ≡ (largest + 2) - taken vs → ws ≡ vs → eqb left 0 ≡ ltb (largest + 1) (taken ws)
-falls_is largest left vs ws is same =
-    elim (cases_lt (largest + 1) (taken ws)) [
-      | inl lt ↦ rw (lt-ltb _ _ lt) (eq-eqb left 0 (omega (arith, is, ap taken same)))
-      | inr le ↦ rw (le-ltb _ _ le) (ne_eqb left 0 (λ none. omega (arith, is, ap taken same)))
-    ]
+falls_is largest left vs ws is same = grind (arith, nat_tests)
 
 pub none_from_default : {A : Type 0} (o p : Option A) → p ≡ o → ((x : A) → p ≡ Some x → ⊥) → o ≡ None
 none_from_default None p e h = refl
@@ -149,10 +130,7 @@ ranges_none largest rest e = ap (ack_ranges_of largest) (numbers_of-none rest e)
 
 pub ranges_last : (largest s : ℕ) (rest : List ℕ) (x : ℕ × ℕ) (after : List ℕ) → s ≡ largest - x.0 → varint_at rest ≡ Some x → after ≡ drop x.1 rest → varint_at after ≡ None
     → ack_ranges_of largest (numbers_of rest) ≡ (s, largest) ∷ ack_ranges_of largest (numbers_of after)
-ranges_last largest s rest x after first e is ends =
-    let none = numbers_of-none after ends in
-    let all : numbers_of rest ≡ x.0 ∷ [] = numbers_of-next rest x e ∙ ap (λ (t : List ℕ). x.0 ∷ numbers_of t) (sym is) ∙ ap (λ (vs : List ℕ). x.0 ∷ vs) none in
-    ap (ack_ranges_of largest) all ∙ ap (λ (low : ℕ). (low, largest) ∷ []) (sym first) ∙ ap (λ (vs : List ℕ). (s, largest) ∷ ack_ranges_of largest vs) (sym none)
+ranges_last largest s rest x after first e is ends = grind (arith, nat_tests, numbers_of-none, numbers_of-next)
 
 pub ranges_more : (largest s next : ℕ) (rest : List ℕ) (x : ℕ × ℕ) (after : List ℕ) (y : ℕ × ℕ) (last : List ℕ) → s ≡ largest - x.0 → next ≡ s - (y.0 + 2)
     → varint_at rest ≡ Some x → after ≡ drop x.1 rest → varint_at after ≡ Some y → last ≡ drop y.1 after

@@ -1,15 +1,15 @@
 -- What is read of a frame is a text of it, and a text of a frame is read.
-use Rattle.std.proofs.Common.{◌≡◌, ℕ, ◌^◌, ◌<◌, Bool, true, false, cond, eqb, List, ◌∷◌, ◌++◌, length, take, drop, Option, Some, None, Result, Ok, Err, refl, sym, ap, subst, ◌∙◌, append_assoc, arith}
-use Rattle.std.proofs.lemmas.Bool.{eqb-true, eq-eqb}
+use Rattle.std.proofs.lemmas.Bool.Decides.{nat_tests}
+use Rattle.std.proofs.Common.{◌≡◌, ℕ, ◌^◌, ◌<◌, List, ◌∷◌, ◌++◌, length, take, drop, Option, Some, None, Result, Ok, Err, refl, sym, ap, subst, ◌∙◌, append_assoc, arith}
+use Rattle.std.proofs.lemmas.Bool.{eq-eqb}
 use Rattle.std.proofs.lemmas.List.{take-append-drop, length-append, length-take-le, drop_at}
 use Rattle.qs_wire.specs.declared.fault.FaultKind.{FaultKind}
-use Rattle.qs_wire.specs.declared.fault.FaultKind.TheVariants.{LongType}
 use Rattle.qs_wire.specs.declared.frame_type.FrameType.{FrameType}
 use Rattle.qs_wire.specs.declared.reading.Broken.{Broken}
 use Rattle.qs_wire.specs.Varint.{short, short_len, varint_at}
 use Rattle.qs_wire.specs.Layout.{FrameValue, layout, frame_of, type_of, number_of_type}
 use Rattle.qs_wire.specs.Grammar.{ShapeText, FrameText, Meets}
-use Rattle.qs_wire.specs.Reading.{◌>>=◌, fields_at, body_at, breach_of, typed, broken, split_type, number_of_type_at, known_type, checked, frame_at}
+use Rattle.qs_wire.specs.Reading.{◌>>=◌, fields_at, body_at, breach_of, typed, split_type, number_of_type_at, known_type, checked, frame_at}
 use Rattle.qs_wire.specs.Bodies.{judged, judged_body_at}
 use Rattle.qs_wire.proofs.Numbers.{IsBytes, IsBytes-drop, varint_takes, varint_again, short_spells, short_byte, length-short, short_positive, short_from_length, Spells-below}
 use Rattle.qs_wire.proofs.FieldLaws.{bind_ok, ok_is, fields_take, fields_again}
@@ -42,13 +42,7 @@ pub record TakesType (bytes : List ℕ) (t : ℕ) (after : List ℕ) : Type 0 wh
 
 split_ok : (o : Option (ℕ × ℕ)) (bytes : List ℕ) (x : ℕ × List ℕ) → split_type o bytes ≡ Ok x
     → (p : ℕ × ℕ) × (o ≡ Some p) × (p.1 ≡ short_len p.0) × ((p.0, drop p.1 bytes) ≡ x)
-split_ok None bytes x e = absurd cc
-split_ok (Some p) bytes x e = at (eqb p.1 (short_len p.0)) refl e
-  where
-    at : (b : Bool) → eqb p.1 (short_len p.0) ≡ b → cond b (whole (p.0, drop p.1 bytes)) (broken LongType p.0) ≡ Ok x
-        → (q : ℕ × ℕ) × (Some p ≡ Some q) × (q.1 ≡ short_len q.0) × ((q.0, drop q.1 bytes) ≡ x)
-    at true is e = (p, refl, eqb-true _ _ is, whole_is (p.0, drop p.1 bytes) x e)
-    at false is e = absurd cc
+split_ok o bytes x e = grind (arith, nat_tests)
 
 pub type_takes : (bytes : List ℕ) (x : ℕ × List ℕ) → IsBytes bytes → number_of_type_at bytes ≡ Ok x → TakesType bytes x.0 x.1
 unfolding number_of_type_at
@@ -78,12 +72,7 @@ byte_type b bs below = ap (λ (t : List ℕ). number_of_type_at (t ++ bs)) (sym 
 -- ---- the frame
 
 judge : (n : ℕ) (r : Result (FrameValue × List ℕ) FaultKind) → (typed n r >>= λ y. checked n y (breach_of y.0)) ≡ (typed n (r >>= λ y. judged y (breach_of y.0)) >>= λ y. whole (n, y.0, y.1))
-judge n (Err k) = refl
-judge n (Ok x) = at (breach_of x.0)
-  where
-    at : (o : Option FaultKind) → checked n x o ≡ (typed n (judged x o) >>= λ y. whole (n, y.0, y.1))
-    at None = refl
-    at (Some k) = refl
+judge n r = grind (arith, nat_tests)
 
 -- a frame is its type and a body that was judged
 pub frame_is : (bytes rest : List ℕ) (n : ℕ) (type : FrameType) (r : Result (FrameValue × List ℕ) FaultKind) → number_of_type_at bytes ≡ Ok (n, rest) → type_of n ≡ Some type
@@ -137,13 +126,7 @@ frame_takes bytes x fits e =
 -- the shape of a frame is read, up to what its values have to meet
 pub shape_again : (frame : FrameValue) (text after : List ℕ) → (s : ShapeText frame text after) → frame_at (text ++ after) ≡ checked (number_of_type s.type) (frame, after) (breach_of frame)
 unfolding frame_at body_at
-shape_again frame text after s =
-    let n = number_of_type s.type in
-    let regrouped : text ++ after ≡ short n ++ (s.body ++ after) = ap (λ (t : List ℕ). t ++ after) s.parts ∙ append_assoc (short n) s.body after in
-    let below : n < 2 ^ 62 = type_below s.type in
-    let first : number_of_type_at (text ++ after) ≡ Ok (n, s.body ++ after) = ap number_of_type_at regrouped ∙ type_at_again n (s.body ++ after) below in
-    let body : fields_at (layout s.type) (s.body ++ after) ≡ Ok (s.values, after) = fields_again (layout s.type) s.values s.body after s.fields in
-    rw (first, type_again s.type, body, s.is_frame) refl
+shape_again frame text after s = grind (arith, nat_tests, append_assoc, type_below, type_at_again, fields_again, type_again)
 
 pub frame_again : (frame : FrameValue) (text after : List ℕ) → (h : FrameText frame text after) → frame_at (text ++ after) ≡ Ok (number_of_type h.0.type, frame, after)
 frame_again frame text after h = shape_again frame text after h.0 ∙ ap (checked (number_of_type h.0.type) (frame, after)) (none_from_meets frame h.1)

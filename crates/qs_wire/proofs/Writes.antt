@@ -1,4 +1,5 @@
 -- One write after another.
+use Rattle.std.proofs.lemmas.Bool.Decides.{nat_tests}
 use Rattle.std.proofs.Common.{◌≡◌, ℕ, Bool, true, get_or, refl, ◌+◌, ◌<◌, ◌≤◌, List, [], ◌∷◌, ◌++◌, length, take, drop, sym, ap, subst, ◌∙◌, append_assoc, arith}
 use Rattle.std.specs.List.{flat_map}
 use Rattle.std.proofs.lemmas.List.Concat.{flat_map-append}
@@ -40,17 +41,9 @@ Puts-four a b c d old one two three new i j k p at_i q at_j r at_k s =
 pub Puts-front : (text old new : List ℕ) → Puts 0 text old new → new ≡ text ++ drop (length text) old
 Puts-front text old new p = p.is ∙ ap (λ (n : ℕ). text ++ drop n old) (omega arith)
 
-pub Puts-at_front : (text old new : List ℕ) → length text ≤ length old → new ≡ text ++ drop (length text) old → Puts 0 text old new
-Puts-at_front text old new le e = record { room = omega arith; is = e ∙ ap (λ (n : ℕ). text ++ drop n old) (omega arith) }
-
 -- what is written at the front, before what was written behind it
 pub Puts-before : (at : ℕ) (first text old mid new : List ℕ) → length first ≡ at → Puts at text old mid → new ≡ first ++ drop at mid → new ≡ (first ++ text) ++ drop (length (first ++ text)) old
-Puts-before at first text old mid new len p is =
-    let rest = text ++ drop (at + length text) old in
-    let front : length (take at old) ≡ at = length-take-le at old (omega (arith, p.room)) in
-    let here : drop at mid ≡ rest = ap (drop at) p.is ∙ drop_at (take at old) rest at front in
-    is ∙ ap (λ (t : List ℕ). first ++ t) here ∙ sym (append_assoc first text (drop (at + length text) old))
-    ∙ ap (λ (n : ℕ). (first ++ text) ++ drop n old) (omega (arith, length-append first text, len))
+Puts-before at first text old mid new len p is = grind (arith, nat_tests, length-take-le, drop_at, append_assoc, length-append)
 
 -- one byte counts an identifier
 pub identifier_text : (v : List ℕ) → IsIdentifierLength (length v) → short (length v) ++ v ≡ length v ∷ v
@@ -78,11 +71,7 @@ stream_text id offset fin bytes = refl
 
 pub stream_len : (id offset : ℕ) (fin : Bool) (bytes : List ℕ) → number_of_type (Stream (nat_lt 0 offset) true fin) < 64
     → length (canonical (stream id offset fin bytes)) ≡ 1 + short_len id + length (if nat_lt 0 offset then short offset else []) + short_len (length bytes) + length bytes
-stream_len id offset fin bytes small =
-    let type = short (number_of_type (Stream (nat_lt 0 offset) true fin)) in
-    let at : List ℕ = if nat_lt 0 offset then short offset else [] in
-    let rest = (short (length bytes) ++ bytes) ++ [] in
-    omega (arith, ap length (stream_text id offset fin bytes), ap length (short_byte (number_of_type (Stream (nat_lt 0 offset) true fin)) small), length-short id, length-short (length bytes), length-append type (short id ++ (at ++ rest)), length-append (short id) (at ++ rest), length-append at rest, length-append (short (length bytes) ++ bytes) [], length-append (short (length bytes)) bytes)
+stream_len id offset fin bytes small = grind (arith, nat_tests, stream_text, short_byte, length-short, length-append)
 
 -- ---- the text of a frame of numbers
 

@@ -1,6 +1,6 @@
 -- Trusted.
 -- Reading from left to right, with the first fault that is met (RFC 9000, sections 12.4, 16 and 19, for the whole file).
-use Rattle.std.specs.Prelude.{◌≡◌, ℕ, zero, suc, ◌+◌, ◌-◌, ◌*◌, ◌^◌, List, [], ◌∷◌, length, take, drop, Option, Some, None, Result, Ok, Err, nat_lt, nat_le, ◌==◌, ◌&&◌, if◌then◌else◌}
+use Rattle.std.specs.Prelude.{◌≡◌, Bool, ℕ, zero, suc, ◌+◌, ◌-◌, ◌*◌, ◌^◌, List, [], ◌∷◌, length, take, drop, Option, Some, None, Result, Ok, Err, nat_lt, nat_le, ◌==◌, ◌&&◌, if◌then◌else◌}
 use Rattle.qs_wire.specs.declared.fault.FaultKind.{FaultKind}
 use Rattle.qs_wire.specs.declared.fault.FaultKind.TheVariants.{Empty, LongType, UnknownType, Truncated, OffsetTooLarge, CountTooLarge, BelowZero, IdentifierLength}
 use Rattle.qs_wire.specs.declared.fault.WireFault.{WireFault}
@@ -145,6 +145,10 @@ with_first p r = record { left = p ∷ r.left; fault = r.fault }
 
 abbrev pub placed_at : ℕ → ℕ → FrameValue → PlacedValue
 placed_at place type frame = record { place = place; frame = frame; frame_type = type }
+
+-- Where `next_stream` gives nothing, no STREAM frame is next.
+abbrev pub NoStreamNext : Reading → Type 0
+NoStreamNext old = (place type id offset : ℕ) (fin : Bool) (bytes : List ℕ) (more : Reading) → old ≡ with_first (placed_at place type (stream id offset fin bytes)) more → ⊥
 
 abbrev pub one_frame : ℕ → List ℕ → (ℕ → List ℕ → Reading) → Result (ℕ × FrameValue × List ℕ) Broken → Reading
 one_frame place bytes more (Ok x) = with_first (placed_at place x.0 x.1) (more (place + (length bytes - length x.2)) x.2)

@@ -3,7 +3,7 @@
 ghost use Rattle.std.specs.Prelude.{◌≡◌, ℕ, ◌<◌, ◌^◌, List, Ok, Some, MatchOption, IfOk, IfErr, IfSome, IfNone};
 ghost use Rattle.qs_wire.specs.Layout.{FrameValue, view};
 ghost use Rattle.qs_wire.specs.Grammar.{PlacedText, PayloadText, FaultyText, frames_of, Fits};
-ghost use Rattle.qs_wire.specs.Reading.{Next, reading_of, fault_at};
+ghost use Rattle.qs_wire.specs.Reading.{Next, NoStreamNext, reading_of, fault_at};
 
 use crate::fault::{FaultKind, WireFault};
 use crate::frame::Placed;
@@ -65,7 +65,8 @@ impl<'a> Frames<'a> {
         ensures step { IfSome result (λ placed. Next self.old (Ok (Some placed)) self.new) }
         ensures fits { IfSome result (λ placed. Fits (view placed.frame)) }
         ensures typed { IfSome result (λ placed. placed.frame_type < 2 ^ 62) }
-        ensures other { IfNone result (self.new ≡ self.old) }
+        ensures same { IfNone result (self.new ≡ self.old) }
+        ensures other { IfNone result (NoStreamNext self.old) }
     {
         let place = self.place;
         match stream_frame_at(self.rest) {

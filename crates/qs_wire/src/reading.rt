@@ -1,9 +1,9 @@
 //! Reading the frame that begins the bytes.
 
-ghost use Rattle.std.specs.Prelude.{◌≡◌, ◌^◌, ◌<◌, Ok, IfOk, IfErr, IfSome};
+ghost use Rattle.std.specs.Prelude.{◌≡◌, ℕ, ◌^◌, ◌<◌, ◌≤◌, List, ◌∷◌, Ok, IfOk, IfErr, IfSome, IfNone};
 ghost use Rattle.qs_wire.specs.Layout.{view};
 ghost use Rattle.qs_wire.specs.Reading.{Gives, number_of_type_at, frame_at};
-ghost use Rattle.qs_wire.specs.Bodies.{IsRead};
+ghost use Rattle.qs_wire.specs.Bodies.{IsRead, NoStreamAt};
 
 use crate::bodies::{body_at, stream_at};
 use crate::fault::FaultKind;
@@ -23,6 +23,7 @@ pub(crate) struct Broken {
 fn short_type_at(bytes: &[u8]) -> Option<(u64, &[u8])>
     ensures gives { IfSome result (λ x. number_of_type_at bytes.now ≡ Ok (x.0, x.1.now)) }
     ensures typed { IfSome result (λ x. x.0 < 2 ^ 62) }
+    ensures longer { IfNone result ((b : ℕ) (bs : List ℕ) → bytes.now ≡ b ∷ bs → 64 ≤ b) }
 {
     match bytes.split_first() {
         // One byte has no shorter spelling.
@@ -86,7 +87,8 @@ pub(crate) fn frame_at(bytes: &[u8]) -> Result<(u64, Frame<'_>, &[u8]), Broken>
 /// The same, if it is a STREAM frame without a fault.
 #[inline(always)]
 pub(crate) fn stream_frame_at(bytes: &[u8]) -> Option<(u64, Frame<'_>, &[u8])>
-    ensures { IfSome result (λ x. IsRead bytes.now x.0 (view x.1) x.2.now) }
+    ensures other { IfNone result (NoStreamAt bytes.now) }
+    ensures read { IfSome result (λ x. IsRead bytes.now x.0 (view x.1) x.2.now) }
 {
     let (frame_type, rest) = short_type_at(bytes)?;
     let Some(FrameType::Stream { off, len, fin }) = FrameType::of(frame_type) else {

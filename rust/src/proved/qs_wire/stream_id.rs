@@ -79,7 +79,7 @@ impl StreamId {
         self.value / 4
     }
 
-    #[inline]
+    #[inline(always)]
     pub fn value(self) -> u64 {
         self.value
     }
