@@ -2,6 +2,7 @@
 ghost use Rattle.std.specs.Prelude.{◌<◌};
 ghost use Rattle.qs_ranges.specs.Bits.{HasBit, IsLowestBit};
 
+#[inline(always)]
 pub fn with_bit(word: u64, bit: usize, is_set: bool) -> u64
     requires { bit < 64 }
     ensures { HasBit word bit is_set result }

@@ -45,6 +45,7 @@ impl MaybeNumber {
         MaybeNumber { word: n }
     }
 
+    #[inline(always)]
     pub fn get(self) -> Option<u64>
         ensures value { result ≡ self }
         ensures small { IfSome result (λ n. n ≤ MAX_VARINT) }

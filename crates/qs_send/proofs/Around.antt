@@ -3,14 +3,18 @@
 --     around_first     fewer of them
 --     around_front     those at its front
 --     written_..       new ones behind them, written in one piece and in two
-use Rattle.std.specs.Prelude.{◌≡◌, ℕ, ◌+◌, ◌-◌, ◌<◌, ◌≤◌, false, true, List, ◌++◌, length, take, drop, slice_index, if◌then◌else◌}
-use Rattle.std.proofs.Common.{sym, ◌∙◌, ap, arith, inl, inr, length-drop}
+use Rattle.std.proofs.lemmas.Grind.{common_steps}
+use Rattle.std.proofs.Common.{◌≡◌, ℕ, ◌≤◌, false, true, List, length, sym, ◌∙◌, ap, arith, inl, inr, length-drop, Bool, ◌||◌, Option, is_some}
+use Rattle.std.specs.Prelude.{◌+◌, ◌-◌, ◌<◌, ◌++◌, take, drop, slice_index, if◌then◌else◌}
 use Rattle.std.proofs.lemmas.List.{length-take, length-append, get_or-take, get_or-drop, get_or_append_left, get_or-append_right, ext_get_or, append_assoc, take-append-le, take-take, take_at, take_rest}
 use Rattle.std.proofs.Math.Seq.{take-append-add}
 use Rattle.std.proofs.lemmas.Bool.{cases_lt}
 use Rattle.std.proofs.lemmas.Bool.Decides.{nat_tests}
 use Rattle.qs_ranges.specs.Numbers.{is_within}
-use Rattle.qs_send.specs.KeptBytes.{around, place_in}
+use Rattle.qs_send.specs.KeptBytes.{around, place_in, IsFreed}
+use Rattle.qs_send.specs.declared.parts.Reset.{Reset}
+use Rattle.qs_send.specs.Lane.{Sending}
+use Rattle.qs_send.specs.Sound.{IsLawful}
 
 -- how many there are
 pub around_len : (s n : ℕ) (ring : List ℕ) → n ≤ length ring → length (around s n ring) ≡ n
@@ -18,19 +22,14 @@ around_len s n ring h = simp (length-take, length-append, length-drop) (omega (a
 
 -- where each stands
 around_at : (s n k : ℕ) (ring : List ℕ) → s ≤ length ring → n ≤ length ring → k < n → slice_index (around s n ring) k ≡ slice_index ring (place_in (length ring) (s + k))
-around_at s n k ring begins fits below =
-    get_or-take n (drop s ring ++ ring) k 0 below ∙ elim (cases_lt (s + k) (length ring)) [
-      | inl here ↦ get_or_append_left (drop s ring) ring 0 k (simp length-drop (omega (arith, here))) ∙ get_or-drop s ring k 0 ∙ ap (slice_index ring) (let p : s + k ≡ place_in (length ring) (s + k) = grind (arith, nat_tests) in p)
-      | inr past ↦ get_or-append_right (drop s ring) ring (length ring - s) k 0 (length-drop s ring) (omega (arith, past)) ∙ ap (slice_index ring) (let p : k - (length ring - s) ≡ place_in (length ring) (s + k) = grind (arith, nat_tests, begins) in p)
-    ]
+around_at s n k ring begins fits below = grind (arith, nat_tests, get_or-take, get_or_append_left, length-drop, get_or-drop, get_or-append_right)
 
 pub around_part : (s n from len : ℕ) (ring : List ℕ) → s ≤ length ring → n ≤ length ring → from + len ≤ n → around (place_in (length ring) (s + from)) len ring ≡ take len (drop from (around s n ring))
 around_part s n from len ring begins fits within =
     let start = place_in (length ring) (s + from) in
-    let start_in : start ≤ length ring = grind (arith, nat_tests, begins, fits, within) in
+    let start_in : start ≤ length ring = grind (arith, nat_tests, fits) in
     let len_in : len ≤ length ring = omega (arith, fits, within) in
-    let size : length (around start len ring) ≡ length (take len (drop from (around s n ring))) =
-    around_len start len ring len_in ∙ sym (simp (length-take, length-drop, length-append) (omega (arith, within, fits))) in
+    let size : length (around start len ring) ≡ length (take len (drop from (around s n ring))) = grind (arith, nat_tests, length-take, length-drop, length-append) in
     ext_get_or 0 _ _ size (λ i low.
     let below : i < len = omega (arith, low, around_len start len ring len_in) in
     let same : place_in (length ring) (start + i) ≡ place_in (length ring) (s + (from + i)) = grind (arith, nat_tests, begins, fits, within, below) in
@@ -40,15 +39,10 @@ around_part s n from len ring begins fits within =
 -- the same over what a call looks at
 pub part_is : (s n from len size start : ℕ) (ring slice out : List ℕ) → slice ≡ ring → size ≡ length ring → start ≡ place_in size (s + from) → s ≤ length ring → n ≤ length ring
     → from + len ≤ length (around s n ring) → out ≡ around start len slice → out ≡ take len (drop from (around s n ring))
-part_is s n from len size start ring slice out same whole at begins fits within is =
-    let in_count : from + len ≤ n = omega (arith, within, around_len s n ring fits) in
-    is ∙ ap (λ r. around start len r) same ∙ ap (λ k. around k len ring) (at ∙ ap (λ w. place_in w (s + from)) whole) ∙ around_part s n from len ring begins fits in_count
+part_is s n from len size start ring slice out same whole at begins fits within is = grind (arith, nat_tests, around_len, around_part)
 
 pub around_rest : (s n from : ℕ) (ring : List ℕ) → s ≤ length ring → n ≤ length ring → from ≤ n → around (place_in (length ring) (s + from)) (n - from) ring ≡ drop from (around s n ring)
-around_rest s n from ring begins fits within =
-    around_part s n from (n - from) ring begins fits (omega (arith, within))
-    ∙ ap (λ m. take (m - from) (drop from (around s n ring))) (sym (around_len s n ring fits))
-    ∙ take_rest (around s n ring) from
+around_rest s n from ring begins fits within = grind (arith, common_steps, around_part, take_rest)
 
 pub around_first : (s n k : ℕ) (ring : List ℕ) → k ≤ n → around s k ring ≡ take k (around s n ring)
 around_first s n k ring h = sym (take-take k n (drop s ring ++ ring) h)
@@ -71,9 +65,7 @@ pieces_twice s n ring begins more =
 -- all of them at the front of another ring, and new ones behind them
 pub moved_is : (s n : ℕ) (ring slice pieces bytes items : List ℕ) → slice ≡ ring → n ≤ length ring → pieces ≡ around s n slice → around 0 (length pieces + length bytes) items ≡ pieces ++ bytes
     → around 0 (n + length bytes) items ≡ around s n ring ++ bytes
-moved_is s n ring slice pieces bytes items same fits is moved =
-    let kept : pieces ≡ around s n ring = is ∙ ap (λ r. around s n r) same in
-    ap (λ m. around 0 (m + length bytes) items) (sym (ap length kept ∙ around_len s n ring fits)) ∙ moved ∙ ap (λ xs. xs ++ bytes) kept
+moved_is s n ring slice pieces bytes items same fits is moved = grind (arith, nat_tests, around_len)
 
 -- what is written behind them stands behind them
 behind : (s n : ℕ) (ring new bytes : List ℕ) → s ≤ length ring → n + length bytes ≤ length ring → length new ≡ length ring
@@ -85,8 +77,7 @@ behind s n ring new bytes begins fits same stays is_new =
     let n_in : n ≤ length ring = omega (arith, fits) in
     let new_in : n + m ≤ length new = omega (arith, fits, same) in
     let old_len : length (around s n ring) ≡ n = around_len s n ring n_in in
-    let size : length (around s (n + m) new) ≡ length (around s n ring ++ bytes) =
-    around_len s (n + m) new new_in ∙ sym (length-append (around s n ring) bytes ∙ ap (λ l. l + m) old_len) in
+    let size : length (around s (n + m) new) ≡ length (around s n ring ++ bytes) = grind (arith, nat_tests, around_len, length-append) in
     ext_get_or 0 _ _ size (λ i low.
     let below : i < n + m = omega (arith, low, around_len s (n + m) new new_in) in
     around_at s (n + m) i new (omega (arith, begins, same)) new_in below ∙ ap (λ w. slice_index new (place_in w (s + i))) same ∙ elim (cases_lt i n) [
@@ -99,21 +90,7 @@ behind s n ring new bytes begins fits same stays is_new =
 pub written_once : (s n at : ℕ) (ring new bytes : List ℕ) → s ≤ length ring → n + length bytes ≤ length ring → at ≡ place_in (length ring) (s + n) → length bytes ≤ length ring - at → length new ≡ length ring
     → ((k : ℕ) → slice_index new k ≡ (if is_within at (at + length bytes) k then slice_index bytes (k - at) else slice_index ring k))
     → around s (n + length bytes) new ≡ around s n ring ++ bytes
-written_once s n at ring new bytes begins fits at_is room same is =
-    behind s n ring new bytes begins fits same
-    (λ i first. let off = past at s n i (length ring) (length bytes) begins fits at_is room first in
-    is _ ∙ ap (λ t. if t then slice_index bytes (place_in (length ring) (s + i) - at) else slice_index ring (place_in (length ring) (s + i))) off)
-    (λ k low.
-    let here = inside at s n k (length ring) (length bytes) begins fits at_is room low in
-    is _ ∙ ap (λ p. if is_within at (at + length bytes) p then slice_index bytes (p - at) else slice_index ring p) here
-    ∙ ap (λ t. if t then slice_index bytes (at + k - at) else slice_index ring (at + k)) (let on : is_within at (at + length bytes) (at + k) ≡ true = grind (arith, nat_tests, low) in on)
-    ∙ ap (slice_index bytes) (let e : at + k - at ≡ k = omega arith in e))
-  where
-    past : (at s n i w m : ℕ) → s ≤ w → n + m ≤ w → at ≡ place_in w (s + n) → m ≤ w - at → i < n → is_within at (at + m) (place_in w (s + i)) ≡ false
-    past at s n i w m begins fits at_is room first = grind (arith, nat_tests)
-
-    inside : (at s n k w m : ℕ) → s ≤ w → n + m ≤ w → at ≡ place_in w (s + n) → m ≤ w - at → k < m → place_in w (s + (n + k)) ≡ at + k
-    inside at s n k w m begins fits at_is room low = grind (arith, nat_tests)
+written_once s n at ring new bytes begins fits at_is room same is = grind (arith, nat_tests, behind)
 
 pub written_twice : (s n at room : ℕ) (ring mid new bytes front back : List ℕ) → s ≤ length ring → n + length bytes ≤ length ring → at ≡ place_in (length ring) (s + n) → room ≡ length ring - at → room < length bytes
     → front ≡ take room bytes → back ≡ drop room bytes → length front ≡ room → length back + room ≡ length bytes → length new ≡ length ring
@@ -134,14 +111,14 @@ written_twice s n at room ring mid new bytes front back begins fits at_is rest m
       | inl first ↦
           let here : place_in w (s + (n + k)) ≡ at + k = on_front at s n k w m room begins fits at_is rest more first in
           let a : is_within 0 (0 + length back) (at + k) ≡ false = past_back at s n k w m room (length back) begins fits at_is rest more back_len in
-          let b : is_within at (at + length front) (at + k) ≡ true = grind (arith, nat_tests, first, front_len) in
+          let b : is_within at (at + length front) (at + k) ≡ true = grind (arith, nat_tests, first) in
           let e : at + k - at ≡ k = omega arith in
           ap (slice_index new) here ∙ new_is (at + k) ∙ ap (λ t. if t then slice_index back (at + k - 0) else slice_index mid (at + k)) a
           ∙ mid_is (at + k) ∙ ap (λ t. if t then slice_index front (at + k - at) else slice_index ring (at + k)) b
           ∙ ap (slice_index front) e ∙ ap (λ xs. slice_index xs k) front_is ∙ get_or-take room bytes k 0 first
       | inr later ↦
           let here : place_in w (s + (n + k)) ≡ k - room = on_back at s n k w m room begins fits at_is rest more later low in
-          let a : is_within 0 (0 + length back) (k - room) ≡ true = grind (arith, nat_tests, later, low, back_len) in
+          let a : is_within 0 (0 + length back) (k - room) ≡ true = grind (arith, nat_tests, low) in
           let e : room + (k - room) ≡ k = omega (arith, later) in
           ap (slice_index new) here ∙ new_is (k - room) ∙ ap (λ t. if t then slice_index back (k - room - 0) else slice_index mid (k - room)) a
           ∙ ap (slice_index back) (let z : k - room - 0 ≡ k - room = omega arith in z) ∙ ap (λ xs. slice_index xs (k - room)) back_is ∙ get_or-drop room bytes (k - room) 0 ∙ ap (slice_index bytes) e
@@ -161,3 +138,13 @@ written_twice s n at room ring mid new bytes front back begins fits at_is rest m
 
     on_back : (at s n k w m room : ℕ) → s ≤ w → n + m ≤ w → at ≡ place_in w (s + n) → room ≡ w - at → room < m → room ≤ k → k < m → place_in w (s + (n + k)) ≡ k - room
     on_back at s n k w m room begins fits at_is rest more later low = grind (arith, nat_tests)
+
+-- ---- When the buffer of a half takes no memory.
+
+-- a half that takes bytes may hold any room
+pub freed_open : (s : Sending) (r : Option Reset) (kept : List ℕ) (room : ℕ) → IsLawful s → is_some r ≡ false → s.lane.finished ≡ false → IsFreed r s.lane.fin_acked kept room
+freed_open s r kept room h open_half not_yet = grind (arith, nat_tests)
+
+-- what is acknowledged takes no room where none was taken, and gives it back where it is all
+pub freed_acked : (r : Option Reset) (a f : Bool) (kept more : List ℕ) (room least : ℕ) → IsFreed r a more room → least ≤ room → ((a || f) ≡ true → length kept ≡ 0 → least ≡ 0) → IsFreed r (a || f) kept least
+freed_acked r a f kept more room least h le over = record { reset = λ is. let none = h.reset is in omega (arith, le, none); whole = over }

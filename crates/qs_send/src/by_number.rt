@@ -146,6 +146,7 @@ impl ByNumber {
         true
     }
 
+    #[tactic(auto, using(crate::proofs::Outstanding::cut_at, crate::proofs::Outstanding::cut_gap))]
     fn count_below(&self, number: u64) -> usize
         ensures cut { IsCut number self.now.records result }
         ensures within { result ≤ length self.now.records }

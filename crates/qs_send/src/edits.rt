@@ -6,6 +6,7 @@ ghost use Rattle.qs_ranges.specs.Numbers.{numbers, is_within, ContainsRange, Mis
 use qs_ranges::{NoMemory, RangeSet};
 
 /// Adds the offsets from `lo` on and below `hi`. Memory is taken only if there are some, and the set has none of them and none beside them.
+#[tactic(auto, using(crate::proofs::Runs::with_none))]
 pub fn add(offsets: &mut RangeSet, lo: u64, hi: u64) -> Result<(), NoMemory>
     requires ordered { lo ≤ hi }
     requires within { hi ≤ 2 ^ 62 }
@@ -22,6 +23,7 @@ pub fn add(offsets: &mut RangeSet, lo: u64, hi: u64) -> Result<(), NoMemory>
 
 /// Takes out the offsets from `lo` on and below `hi`. If a run would have to be split and memory for that is refused, they stay: what isn't
 /// noted as due costs nothing to keep.
+#[tactic(auto, using(crate::proofs::Runs::forgets_no_other, crate::proofs::Runs::forgets_only))]
 pub fn forget(offsets: &mut RangeSet, lo: u64, hi: u64)
     requires ordered { lo ≤ hi }
     requires within { hi ≤ 2 ^ 62 }

@@ -162,6 +162,7 @@ fn drop_words(words: &mut VecDeque<u64>)
     }
 }
 
+#[tactic(auto, using(std::proofs::lemmas::Bool::Decides::nat_tests, crate::proofs::Outstanding::full_word))]
 fn is_full(words: &VecDeque<u64>, place: usize) -> bool
     ensures { result ≡ true → (i : ℕ) → i / 64 ≡ place → is_gone words.now.items i ≡ true }
 {

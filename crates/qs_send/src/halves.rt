@@ -56,6 +56,7 @@ impl SendHalves {
     }
 
     #[inline(always)]
+    #[tactic(auto, using(crate::proofs::Slots::len_halves))]
     pub fn len(&self) -> usize
         ensures value { result ≡ length self.now }
         ensures small { result ≤ 2 ^ 60 }
@@ -106,6 +107,7 @@ impl SendHalves {
         self.full.get_mut(place)
     }
 
+    #[tactic(auto, using(crate::proofs::Slots::halves_push))]
     pub fn push(&mut self, half: SendHalf) -> Result<(), NoMemory>
         requires { length self.old < 2 ^ 60 }
         ensures ok { OnOk result (self.new ≡ self.old ++ half ∷ []) }

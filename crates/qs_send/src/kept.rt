@@ -47,6 +47,7 @@ impl Kept {
     }
 
     #[tactic(auto, using(crate::proofs::Around::around_len))]
+    #[inline(always)]
     pub fn len(&self) -> usize
         ensures { result ≡ length self.now.bytes }
     {
@@ -120,6 +121,7 @@ impl Kept {
     }
 
     /// In two pieces if they go around the ring's end.
+    #[tactic(auto, using(crate::proofs::Around::part_is))]
     pub fn part(&self, from: usize, len: usize) -> (&[u8], &[u8])
         requires { from + len ≤ length self.now.bytes }
         ensures { result.0.now ++ result.1.now ≡ take len (drop from self.now.bytes) }

@@ -4,7 +4,7 @@ ghost use Rattle.qs_send.specs.AckPass.{PassGivesAllNamed};
 ghost use Rattle.qs_send.specs.LostPass.{LostPassGivesAllNamed};
 
 /// The length that a chunk's room counts is that of the canonical text of its STREAM frame.
-#[tactic(auto, using(crate::proofs::Canonical::frame_len_is_canonical))]
+#[tactic(auto, using(crate::proofs::Numbers::frame_len_is_canonical))]
 pub fn frame_len_is_canonical()
     ensures { FrameLenIsCanonical }
 {}
@@ -16,26 +16,26 @@ pub fn calls_keep_lawful()
 {}
 
 /// The bytes that are kept are those from the lowest offset not acknowledged on.
-#[tactic(auto, using(crate::proofs::Wholes::kept_from_unacked))]
+#[tactic(auto, using(crate::proofs::Runs::kept_from_unacked))]
 pub fn kept_from_unacked()
     ensures { KeptFromUnacked }
 {}
 
 /// In Data Recvd each written offset and the end were acknowledged.
-#[tactic(auto, using(crate::proofs::Wholes::whole_is_all_acked))]
+#[tactic(auto, using(crate::proofs::Runs::whole_is_all_acked))]
 pub fn whole_is_all_acked()
     ensures { WholeIsAllAcked }
 {}
 
 /// Each written offset is in one of acknowledged, due and in flight.
-#[tactic(auto, using(crate::proofs::Parting::each_offset_is_in_one_part, crate::proofs::Parting::in_flight_was_sent))]
+#[tactic(auto, using(crate::proofs::Steps::each_offset_is_in_one_part, crate::proofs::Steps::in_flight_was_sent))]
 pub fn each_offset_is_in_one_part()
     ensures one { EachOffsetIsInOnePart }
     ensures sent { InFlightWasSent }
 {}
 
 /// What each call moves between the three parts, of a lane that wasn't reset.
-#[tactic(auto, using(crate::proofs::Parting::calls_move_parts))]
+#[tactic(auto, using(crate::proofs::Steps::calls_move_parts))]
 pub fn calls_move_parts()
     ensures { CallsMoveParts }
 {}
@@ -47,7 +47,7 @@ pub fn declared_size_stays()
 {}
 
 /// A byte that is sent again spends nothing.
-#[tactic(auto, using(crate::proofs::Calls::only_new_bytes_spend))]
+#[tactic(auto, using(crate::proofs::Steps::only_new_bytes_spend))]
 pub fn only_new_bytes_spend()
     ensures { OnlyNewBytesSpend }
 {}
@@ -58,13 +58,13 @@ pub fn next_chunk_is_unique()
 {}
 
 /// The bytes of a due chunk are in the buffer.
-#[tactic(auto, using(crate::proofs::Keeps::due_has_bytes))]
+#[tactic(auto, using(crate::proofs::Steps::due_has_bytes))]
 pub fn due_chunk_has_bytes()
     ensures { DueChunkHasBytes }
 {}
 
 /// After a chunk that doesn't reach the end of its run, the same packet takes no other.
-#[tactic(auto, using(crate::proofs::Packets::cut_chunk_is_last))]
+#[tactic(auto, using(crate::proofs::Steps::cut_chunk_is_last))]
 pub fn cut_chunk_is_last()
     ensures { CutChunkIsLast }
 {}
@@ -89,7 +89,7 @@ pub fn pass_gives_all_named()
 
 /// A pass over an ACK gives the lost numbers that it names, each once and the highest first, in no more turns than there are records
 /// and ranges (RFC 9000, section 13.2.1).
-#[tactic(auto, using(crate::proofs::LostPassing::lost_pass_gives_all_named))]
+#[tactic(auto, using(crate::proofs::Passing::lost_pass_gives_all_named))]
 pub fn lost_pass_gives_all_named()
     ensures { LostPassGivesAllNamed }
 {}

@@ -41,6 +41,7 @@ impl LostRecord {
         }
     }
 
+    #[inline(always)]
     pub(crate) fn number(&self) -> u64
         ensures { result ≡ self.now.number }
     {

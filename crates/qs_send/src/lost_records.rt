@@ -93,6 +93,7 @@ impl LostRecords {
 
     /// Drops the first piece of a packet, and the record with the last. Room that was made may go too: it may have been the packet's own
     /// memory.
+    #[tactic(auto, using(crate::proofs::Outstanding::order_rest, crate::proofs::Outstanding::order_stays))]
     pub fn drop_first(&mut self, number: u64)
         ensures pieces { self.new.pieces ≡ without_first self.old.pieces number (fmap.get self.old.pieces number) }
         ensures order { self.new.order ≡ (if fmap.contains_key self.new.pieces number then self.old.order else without_number self.old.order number) }
@@ -128,6 +129,7 @@ impl LostRecords {
         self.list.below(number, near)
     }
 
+    #[inline(always)]
     pub fn len(&self) -> usize
         ensures { result ≡ length self.now.order }
     {

@@ -61,7 +61,7 @@ impl Offsets {
         }
     }
 
-    #[tactic(auto, using(crate::proofs::AtRest::rest_missing))]
+    #[tactic(auto, using(crate::proofs::Steps::rest_missing))]
     pub(crate) fn unacked_from(&self) -> u64
         ensures { result ≡ missing_from self.now.parts.acked 0 }
     {
@@ -135,6 +135,7 @@ impl Offsets {
     }
 
     #[inline(always)]
+    #[tactic(auto, using(crate::proofs::Steps::rest_sent))]
     pub(crate) fn sent(&mut self, end: u64)
         requires { end ≤ self.old.parts.written }
         ensures parts { self.new.parts ≡ with_sent self.old.parts end }
@@ -147,6 +148,7 @@ impl Offsets {
     }
 
     /// With the last ACK the box goes. Unchanged if memory was refused.
+    #[tactic(auto, using(crate::proofs::Steps::rest_acked))]
     pub(crate) fn acked(&mut self, lo: u64, hi: u64, is_over: bool) -> Result<(), NoMemory>
         requires ordered { lo ≤ hi }
         requires sent { hi ≤ self.old.parts.sent_end }
@@ -170,6 +172,7 @@ impl Offsets {
     }
 
     /// What isn't acknowledged is due again. Unchanged if memory was refused.
+    #[tactic(auto, using(crate::proofs::Steps::rest_lost))]
     pub(crate) fn lost(&mut self, lo: u64, hi: u64) -> Result<(), NoMemory>
         requires ordered { lo ≤ hi }
         requires sent { hi ≤ self.old.parts.sent_end }

@@ -171,6 +171,7 @@ impl Records {
         }
     }
 
+    #[tactic(auto, using(crate::proofs::Outstanding::greatest_of, crate::proofs::Outstanding::nothing_of))]
     pub fn greatest(&self) -> Option<u64>
         ensures found { IfSome result (IsGreatest self.now.pieces) }
         ensures none { IfNone result ((k : ℕ) → fmap.contains_key self.now.pieces k ≡ false) }
@@ -188,6 +189,7 @@ impl Records {
     }
 
     /// Each packet that is held has a piece. It does nothing: a proof calls it for what it ensures.
+    #[tactic(auto, using(crate::proofs::Outstanding::nothing_is_empty))]
     pub fn learn_none_empty(&self)
         ensures { NoneEmpty self.now.pieces }
     {
@@ -195,6 +197,7 @@ impl Records {
     }
 
     /// The number of the first slot. No lower one is held.
+    #[tactic(auto, using(crate::proofs::Outstanding::not_below))]
     pub fn base(&self) -> u64
         ensures value { result ≡ self.now.base }
         ensures below { (k : ℕ) → k < result → fmap.contains_key self.now.pieces k ≡ false }
@@ -223,6 +226,7 @@ impl Records {
         self.last_from(from, count, looks)
     }
 
+    #[tactic(auto, using(crate::proofs::Outstanding::not_below, crate::proofs::Outstanding::not_past))]
     fn slot_of(&self, number: u64) -> Option<usize>
         ensures found { IfSome result (IsSlotOf self.now.base self.now.slots number) }
         ensures none { IfNone result (fmap.contains_key self.now.pieces number ≡ false) }
@@ -238,6 +242,7 @@ impl Records {
         }
     }
 
+    #[tactic(auto, using(crate::proofs::Outstanding::none_of))]
     fn last_of(&self, count: usize) -> Option<u64>
         requires { count ≤ self.now.slots }
         ensures found { IfSome result (IsGreatestBelow self.now.pieces (self.now.base + count)) }
@@ -327,6 +332,7 @@ impl Records {
         }
     }
 
+    #[tactic(auto, using(std::proofs::lemmas::List::get_or_read, crate::proofs::Outstanding::filled_slot))]
     fn is_filled(&self, place: usize) -> bool
         requires { place < self.now.slots }
         ensures { result ≡ fmap.contains_key self.now.pieces (self.now.base + place) }
@@ -463,6 +469,7 @@ impl Records {
         self.slots.len() < (number - self.base) as usize
     }
 
+    #[tactic(auto, using(crate::proofs::Outstanding::slot_pushed, crate::proofs::Outstanding::gone_beside, crate::proofs::Outstanding::pushed_beside))]
     fn push_slot(&mut self, slot: Carried)
         requires ready { self.old.base + self.old.slots < self.old.room }
         requires small { self.old.base + self.old.slots < 2 ^ 64 }

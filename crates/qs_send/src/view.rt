@@ -241,6 +241,7 @@ impl<'a> SendView<'a> {
     }
 
     #[inline(always)]
+    #[tactic(auto, using(crate::proofs::Slots::none_goes))]
     pub fn next_chunk(&self, room: usize, fresh: u64) -> Option<Chunk>
         ensures found { IfSome result (IsNextChunk self.now room fresh) }
         ensures none { IfNone result (HasNoChunk self.now room fresh) }
@@ -253,6 +254,7 @@ impl<'a> SendView<'a> {
     }
 
     #[inline(always)]
+    #[tactic(auto, using(crate::proofs::Slots::none_goes))]
     pub fn is_held_by_room(&self, room: usize, fresh: u64) -> bool
         ensures { IsTrue result ↔ IsHeldByRoom self.now room fresh }
     {

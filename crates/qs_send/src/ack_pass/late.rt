@@ -35,6 +35,7 @@ impl<'a> AckPass<'a> {
     }
 
     // A record below the range stays in hand until a range begins at it or below, so that it is looked at once.
+    #[tactic(auto, using(crate::proofs::Passing::count_given, crate::proofs::Passing::look_turns))]
     fn lost_in_range(
         &mut self,
         records: &LostRecords,

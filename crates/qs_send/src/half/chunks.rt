@@ -122,7 +122,7 @@ impl SendHalf {
     }
 
     // A FIN alone: no byte is due that could carry it.
-    #[tactic(auto, using(crate::proofs::Keeps::due_has_bytes))]
+    #[tactic(auto, using(crate::proofs::Steps::due_has_bytes))]
     fn end_chunk(&self, room: usize) -> Option<Chunk>
         requires { EndsBefore self.now.due.offsets 0 }
         ensures found { (fresh : ℕ) → IfSome result (IsNextChunk self.now room fresh) }

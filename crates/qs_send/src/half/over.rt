@@ -22,6 +22,7 @@ impl SendHalf {
     }
 
     /// Only if it was neither reset nor stopped: the codes wouldn't fit a slot.
+    #[tactic(auto, using(crate::proofs::Slots::over_kept, crate::proofs::Slots::none_of))]
     pub(crate) fn over(&self, number: u64) -> Option<SendSlot>
         ensures { IfSome result (λ slot. IsOverSlot slot self.now.lane.written × (self.now ≡ over_sending number self.now.lane.written (slot.rest / 2) (slot.rest % 2 == 1) slot.buffer slot.widest)) }
     {

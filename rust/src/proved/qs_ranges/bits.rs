@@ -1,7 +1,7 @@
 // Made from crates/qs_ranges/src/bits.rt by rust/erase; not edited by hand.
 //! Bits of a word, for the marks of 64 streams or slots that one look passes over.
 
-#[inline]
+#[inline(always)]
 pub fn with_bit(word: u64, bit: usize, is_set: bool) -> u64 {
     debug_assert!(bit < 64);
     if is_set {

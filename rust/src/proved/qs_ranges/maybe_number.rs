@@ -22,7 +22,7 @@ impl MaybeNumber {
         MaybeNumber { word: n }
     }
 
-    #[inline]
+    #[inline(always)]
     pub fn get(self) -> Option<u64> {
         if self.word == NO_NUMBER {
             None

@@ -28,7 +28,7 @@ impl Kept {
         }
     }
 
-    #[inline]
+    #[inline(always)]
     pub fn len(&self) -> usize {
         self.count
     }

@@ -24,7 +24,7 @@ impl LostRecord {
         }
     }
 
-    #[inline]
+    #[inline(always)]
     pub(crate) fn number(&self) -> u64 {
         self.number
     }

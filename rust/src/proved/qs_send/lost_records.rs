@@ -82,7 +82,7 @@ impl LostRecords {
         self.list.below(number, near)
     }
 
-    #[inline]
+    #[inline(always)]
     pub fn len(&self) -> usize {
         self.order.len()
     }

@@ -5,7 +5,7 @@ use Rattle.qs_ranges.specs.Runs.{set_of}
 use Rattle.qs_ranges.specs.Blocks.{Blocks, runs_of}
 use Rattle.qs_ranges.specs.declared.few.Few.{Few}
 use Rattle.qs_ranges.specs.declared.few.Few.TheVariants as few
-use Rattle.qs_ranges.proofs.Members.{set_of-is}
+use Rattle.qs_ranges.proofs.Edits.{set_of-is}
 use Rattle.qs_ranges.proofs.RangeSet.below.Goals as goal
 use Rattle.qs_ranges.proofs.RangeSet.below.Goals.{then-n-gt0, else-n-gt0}
 

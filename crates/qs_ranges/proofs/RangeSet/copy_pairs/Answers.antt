@@ -2,7 +2,7 @@ use Rattle.std.proofs.Common.{◌≡◌, length, ap, ◌∙◌, sym, arith}
 use Rattle.std.specs.FinSet as set
 use Rattle.qs_ranges.specs.Numbers.{run_starts}
 use Rattle.qs_ranges.specs.Blocks.{all_runs, runs_of, few_runs}
-use Rattle.qs_ranges.proofs.Sides.{no_block, some_block, counted, runs_are}
+use Rattle.qs_ranges.proofs.Edits.{no_block, some_block, counted, runs_are}
 use Rattle.qs_ranges.proofs.RangeSet.copy_pairs.Goals.{After-is_empty, Then-is_empty, Else-is_empty}
 use Rattle.qs_ranges.proofs.RangeSet.copy_pairs.Goals as goal
 

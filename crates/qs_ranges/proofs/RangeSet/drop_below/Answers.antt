@@ -1,6 +1,6 @@
 use Rattle.std.proofs.Common.{◌-◌, ◌+◌, ◌^◌}
 use Rattle.qs_ranges.specs.Numbers.{ContainsRange}
-use Rattle.qs_ranges.proofs.Sides.{dropped}
+use Rattle.qs_ranges.proofs.Edits.{dropped}
 use Rattle.qs_ranges.proofs.RangeSet.drop_below.Goals as goal
 
 pub returns : goal.returns

@@ -1,6 +1,6 @@
 use Rattle.std.proofs.Common.{◌≡◌, arith, sym, length}
 use Rattle.std.proofs.lemmas.Bool.Decides.{nat_tests}
-use Rattle.qs_ranges.proofs.Sides.{apart_few, has_few}
+use Rattle.qs_ranges.proofs.Edits.{apart_few, has_few}
 use Rattle.qs_ranges.proofs.RangeSet.has.Goals as goal
 
 pub returns-in-InBlocks : goal.returns-in-InBlocks

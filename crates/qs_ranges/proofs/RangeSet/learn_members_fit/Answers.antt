@@ -1,6 +1,6 @@
 use Rattle.std.proofs.Common.{◌^◌}
 use Rattle.qs_ranges.specs.Blocks.{runs_of}
-use Rattle.qs_ranges.proofs.Members.{AllBelow-set_of}
+use Rattle.qs_ranges.proofs.Edits.{AllBelow-set_of}
 use Rattle.qs_ranges.proofs.RangeSet.learn_members_fit.Goals as goal
 
 pub returns : goal.returns

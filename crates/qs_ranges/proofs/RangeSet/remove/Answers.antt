@@ -1,7 +1,6 @@
 use Rattle.std.proofs.Common.{◌≡◌, ◌<◌, ◌^◌, length, arith}
 use Rattle.qs_ranges.specs.Blocks.{all_runs, runs_of, few_runs}
-use Rattle.qs_ranges.proofs.Members.{difference-no_numbers}
-use Rattle.qs_ranges.proofs.Sides.{no_block, some_block, taken, enclosed}
+use Rattle.qs_ranges.proofs.Edits.{difference-no_numbers, no_block, some_block, taken, enclosed}
 use Rattle.qs_ranges.proofs.RangeSet.remove.Goals as goal
 
 pub returns-then-lo-hi-clause-ok : goal.returns-then-lo-hi-clause-ok

@@ -1,10 +1,8 @@
 use Rattle.std.proofs.Common.{◌≡◌, ◌<◌, ◌^◌, length, subst, ap, ◌∙◌, sym, arith}
 use Rattle.std.specs.Prelude.{IfSome}
 use Rattle.qs_ranges.specs.Blocks.{all_runs, runs_of, first_run_above, few_runs}
-use Rattle.qs_ranges.proofs.Algebra.{EndsBefore-from_AllBelow}
-use Rattle.qs_ranges.proofs.Members.{AllBelow-set_of}
-use Rattle.qs_ranges.proofs.Lookups.{IsTwoAbove, two_answers}
-use Rattle.qs_ranges.proofs.Sides.{no_block, some_block}
+use Rattle.qs_ranges.proofs.Sets.{EndsBefore-from_AllBelow}
+use Rattle.qs_ranges.proofs.Edits.{AllBelow-set_of, IsTwoAbove, two_answers, no_block, some_block}
 use Rattle.qs_ranges.proofs.RangeSet.runs_above.Goals as goal
 
 few : (c : goal.After-few_above_two) → IsTwoAbove c.args.self.now c.args.n c.few_above_two.result.0 c.few_above_two.result.1

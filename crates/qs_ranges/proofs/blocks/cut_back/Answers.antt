@@ -1,6 +1,6 @@
 use Rattle.std.proofs.Common.{◌++◌, length, take, ap, ◌∙◌}
 use Rattle.qs_ranges.specs.Blocks.{all_runs, block_at}
-use Rattle.qs_ranges.proofs.Pieces.{read_block, up_to_changed, ends_at}
+use Rattle.qs_ranges.proofs.Places.{read_block, up_to_changed, ends_at}
 use Rattle.qs_ranges.proofs.blocks.cut_back.Goals as goal
 
 pub returns-clause-before : goal.returns-clause-before

@@ -1,8 +1,8 @@
 use Rattle.std.proofs.Common.{◌≡◌, ◌-◌, ◌<◌, ◌≤◌, length, subst, refl, ap, ◌∙◌, arith}
 use Rattle.qs_ranges.specs.Runs.{start_at, end_at}
 use Rattle.qs_ranges.specs.Blocks.{block_at}
-use Rattle.qs_ranges.proofs.Pieces.{read_block}
-use Rattle.qs_ranges.proofs.Found.{first_end, first_last}
+use Rattle.qs_ranges.proofs.Places.{read_block}
+use Rattle.qs_ranges.proofs.Edits.{first_end, first_last}
 use Rattle.qs_ranges.proofs.blocks.first_from.Goals as goal
 
 pub returns-then-end-low-clause-place : goal.returns-then-end-low-clause-place

@@ -1,5 +1,5 @@
 use Rattle.qs_ranges.specs.Blocks.{place}
-use Rattle.qs_ranges.proofs.Pieces.{inserted_if_ok}
+use Rattle.qs_ranges.proofs.Places.{inserted_if_ok}
 use Rattle.qs_ranges.proofs.blocks.insert_at.Goals as goal
 
 pub returns-clause-ok : goal.returns-clause-ok

@@ -1,7 +1,7 @@
 use Rattle.std.proofs.Common.{◌≡◌, ◌-◌, ◌<◌, length, refl, ap, ◌∙◌, arith}
 use Rattle.std.specs.List.{insert}
 use Rattle.qs_ranges.specs.Blocks.{all_runs, block_at, place}
-use Rattle.qs_ranges.proofs.Pieces.{before_next, inserted_if_ok, own_block, read_block}
+use Rattle.qs_ranges.proofs.Places.{before_next, inserted_if_ok, own_block, read_block}
 use Rattle.qs_ranges.proofs.blocks.insert_before.Goals as goal
 
 pub returns-then-len-lt-MOST_RUNS-clause-ok : goal.returns-then-len-lt-MOST_RUNS-clause-ok

@@ -1,6 +1,6 @@
 use Rattle.std.proofs.Common.{◌≡◌, ◌+◌, ◌-◌, ◌/◌, ◌≤◌, length, drop, ap, ◌∙◌, arith}
 use Rattle.qs_ranges.specs.Blocks.{all_runs, block_at, place}
-use Rattle.qs_ranges.proofs.Pieces.{read_block, room, parted, parted_place}
+use Rattle.qs_ranges.proofs.Places.{read_block, room, parted, parted_place}
 use Rattle.qs_ranges.proofs.blocks.make_room.Goals as goal
 
 pub returns-then-at-half-clause-same : goal.returns-then-at-half-clause-same

@@ -1,6 +1,6 @@
 use Rattle.std.proofs.Common.{◌+◌, [], ◌∷◌, ap, ◌∙◌, arith}
 use Rattle.qs_ranges.specs.Blocks.{all_runs}
-use Rattle.qs_ranges.proofs.Pieces.{edited, spliced, block_behind_same}
+use Rattle.qs_ranges.proofs.Places.{edited, spliced, block_behind_same}
 use Rattle.qs_ranges.proofs.blocks.replace.Goals as goal
 
 pub returns-then-span : goal.returns-then-span

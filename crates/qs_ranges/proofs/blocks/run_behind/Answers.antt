@@ -1,9 +1,7 @@
 use Rattle.std.proofs.Common.{◌≡◌, suc, ◌+◌, ◌<◌, length, ap, sym, ◌∙◌, arith}
 use Rattle.qs_ranges.specs.Blocks.{all_runs, block_at, place}
-use Rattle.qs_ranges.proofs.Lookups.{slice_get_none}
-use Rattle.qs_ranges.proofs.Places.{place_next}
-use Rattle.qs_ranges.proofs.Pieces.{read_block}
-use Rattle.qs_ranges.proofs.Found.{past_all, read_at}
+use Rattle.qs_ranges.proofs.Edits.{slice_get_none, past_all, read_at}
+use Rattle.qs_ranges.proofs.Places.{place_next, read_block}
 use Rattle.qs_ranges.proofs.blocks.run_behind.Goals as goal
 
 pub returns-then-at-len : goal.returns-then-at-len

@@ -1,7 +1,6 @@
 use Rattle.std.proofs.Common.{◌≡◌, ◌<◌, length, take, ap, ◌∙◌, arith}
 use Rattle.qs_ranges.specs.Blocks.{all_runs, block_at}
-use Rattle.qs_ranges.proofs.Places.{length_more, length_within}
-use Rattle.qs_ranges.proofs.Pieces.{read_block}
+use Rattle.qs_ranges.proofs.Places.{length_more, length_within, read_block}
 use Rattle.qs_ranges.proofs.blocks.runs_in.Goals as goal
 
 pub loop-at-init : goal.loop-at-init

@@ -1,8 +1,8 @@
 use Rattle.std.proofs.Common.{◌≡◌, ◌-◌, ◌<◌, ◌≤◌, length, subst, arith}
 use Rattle.qs_ranges.specs.Runs.{end_at}
 use Rattle.qs_ranges.specs.Blocks.{block_at}
-use Rattle.qs_ranges.proofs.Pieces.{read_block}
-use Rattle.qs_ranges.proofs.Found.{first_end, first_inside, not_past}
+use Rattle.qs_ranges.proofs.Places.{read_block}
+use Rattle.qs_ranges.proofs.Edits.{first_end, first_inside, not_past}
 use Rattle.qs_ranges.proofs.blocks.search_from.Goals as goal
 
 pub returns-then-block-blocks-clause-place : goal.returns-then-block-blocks-clause-place

@@ -1,10 +1,8 @@
 use Rattle.std.proofs.Common.{◌≡◌, ◌<◌, ◌≤◌, length, subst, arith}
 use Rattle.qs_ranges.specs.Runs.{start_at}
 use Rattle.qs_ranges.specs.Blocks.{all_runs, block_at, place}
-use Rattle.qs_ranges.proofs.Pieces.{read_block}
-use Rattle.qs_ranges.proofs.Places.{at_place}
-use Rattle.qs_ranges.proofs.Span.{span_empty}
-use Rattle.qs_ranges.proofs.Found.{past_all, span_found}
+use Rattle.qs_ranges.proofs.Places.{read_block, at_place}
+use Rattle.qs_ranges.proofs.Edits.{span_empty, past_all, span_found}
 use Rattle.qs_ranges.proofs.blocks.span_of.Goals as goal
 
 pub returns-then-block-blocks-clause-span : goal.returns-then-block-blocks-clause-span

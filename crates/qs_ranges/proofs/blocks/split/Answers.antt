@@ -1,6 +1,6 @@
 use Rattle.std.proofs.Common.{◌≡◌, ◌+◌, [], ◌∷◌, ap, ◌∙◌, arith}
 use Rattle.qs_ranges.specs.Blocks.{all_runs}
-use Rattle.qs_ranges.proofs.Pieces.{edited, spliced, block_behind_same}
+use Rattle.qs_ranges.proofs.Places.{edited, spliced, block_behind_same}
 use Rattle.qs_ranges.proofs.blocks.split.Goals as goal
 
 pub start_with-requires-clause-to : goal.start_with-requires-clause-to

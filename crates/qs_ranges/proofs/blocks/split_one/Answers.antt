@@ -1,6 +1,6 @@
 use Rattle.std.proofs.Common.{[], ◌∷◌, arith}
 use Rattle.qs_ranges.specs.Blocks.{place}
-use Rattle.qs_ranges.proofs.Pieces.{edited_if_ok}
+use Rattle.qs_ranges.proofs.Places.{edited_if_ok}
 use Rattle.qs_ranges.proofs.blocks.split_one.Goals as goal
 
 pub returns-clause-ok : goal.returns-clause-ok

@@ -1,7 +1,7 @@
 use Rattle.std.proofs.Common.{◌≡◌, ◌+◌, ◌<◌, ◌++◌, [], length, take, drop, ap, sym, ◌∙◌, arith}
 use Rattle.std.proofs.lemmas.List.{append-nil}
 use Rattle.qs_ranges.specs.Blocks.{all_runs, block_at, place}
-use Rattle.qs_ranges.proofs.Pieces.{read_block, edited, spliced, block_behind_same, whole_out}
+use Rattle.qs_ranges.proofs.Places.{read_block, edited, spliced, block_behind_same, whole_out}
 use Rattle.qs_ranges.proofs.blocks.take_out.Goals as goal
 
 pub cut_front-last-requires-clause-to : goal.cut_front-last-requires-clause-to

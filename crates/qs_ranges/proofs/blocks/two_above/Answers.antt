@@ -1,10 +1,8 @@
 use Rattle.std.proofs.Common.{◌≡◌, ◌+◌, ◌<◌, length, get_or, ap, sym, ◌∙◌, refl, arith}
 use Rattle.qs_ranges.specs.Runs.{end_at}
 use Rattle.qs_ranges.specs.Blocks.{all_runs, block_at, place}
-use Rattle.qs_ranges.proofs.Lookups.{slice_get_at_first, slice_get_none}
-use Rattle.qs_ranges.proofs.Places.{place_within, run_at_place}
-use Rattle.qs_ranges.proofs.Pieces.{read_block}
-use Rattle.qs_ranges.proofs.Found.{past_all, read_at, next_first}
+use Rattle.qs_ranges.proofs.Edits.{slice_get_at_first, slice_get_none, past_all, read_at, next_first}
+use Rattle.qs_ranges.proofs.Places.{place_within, run_at_place, read_block}
 use Rattle.qs_ranges.proofs.blocks.two_above.Goals as goal
 
 pub returns-then-block-blocks-clause-first : goal.returns-then-block-blocks-clause-first

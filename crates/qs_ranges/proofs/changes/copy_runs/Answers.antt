@@ -2,8 +2,7 @@ use Rattle.std.proofs.Common.{◌≡◌, ℕ, ◌+◌, ◌≤◌, ◌++◌, leng
 use Rattle.std.proofs.lemmas.List.{take_at, length-take-le, length-drop}
 use Rattle.qs_ranges.specs.Runs.{Runs}
 use Rattle.qs_ranges.specs.Blocks.{all_runs, block_at}
-use Rattle.qs_ranges.proofs.Places.{all_more, length_more, length_within}
-use Rattle.qs_ranges.proofs.Pieces.{read_block}
+use Rattle.qs_ranges.proofs.Places.{all_more, length_more, length_within, read_block}
 use Rattle.qs_ranges.proofs.changes.copy_runs.Goals as goal
 
 -- runs that are copied behind those which stand there

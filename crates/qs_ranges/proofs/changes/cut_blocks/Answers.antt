@@ -1,9 +1,7 @@
 use Rattle.std.proofs.Common.{Result, Ok, Err, OnErr, ◌≡◌, ◌+◌, ◌^◌, refl, arith}
 use Rattle.qs_ranges.specs.Runs.{IsSpan}
 use Rattle.qs_ranges.specs.Blocks.{all_runs, place, IsFound}
-use Rattle.qs_ranges.proofs.Found.{is_false, is_true, read_ends}
-use Rattle.qs_ranges.proofs.Sides.{count_fits, kept_all, cut_all, cut_end, cut_start}
-use Rattle.qs_ranges.proofs.Edits.{removed_inside, contains_around}
+use Rattle.qs_ranges.proofs.Edits.{is_false, is_true, read_ends, count_fits, kept_all, cut_all, cut_end, cut_start, removed_inside, contains_around}
 use Rattle.qs_ranges.proofs.changes.cut_blocks.Goals as goal
 
 on_err : {T E P : Type 0} (r : Result T E) → P → OnErr r P

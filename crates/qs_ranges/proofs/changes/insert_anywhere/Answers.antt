@@ -1,9 +1,7 @@
 use Rattle.std.proofs.Common.{◌≡◌, ◌+◌, ◌-◌, ◌^◌, min, max, ap, ◌∙◌, arith}
 use Rattle.qs_ranges.specs.Runs.{IsSpan, start_at, end_at}
 use Rattle.qs_ranges.specs.Blocks.{all_runs, place, IsFound}
-use Rattle.qs_ranges.proofs.Found.{is_false, is_true, read_ends}
-use Rattle.qs_ranges.proofs.Sides.{many_value, count_fits, put_nowhere, put_over}
-use Rattle.qs_ranges.proofs.Edits.{inserted_apart}
+use Rattle.qs_ranges.proofs.Edits.{is_false, is_true, read_ends, many_value, count_fits, put_nowhere, put_over, inserted_apart}
 use Rattle.qs_ranges.proofs.changes.insert_anywhere.Goals as goal
 
 pub returns-then-not-span-clause-ok : goal.returns-then-not-span-clause-ok

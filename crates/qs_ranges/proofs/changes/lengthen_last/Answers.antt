@@ -1,7 +1,7 @@
 use Rattle.std.proofs.Common.{◌≡◌, ◌+◌, ◌-◌, ◌^◌, ◌<◌, get_or, slice_set, [], ◌∷◌, length, refl, ap, ◌∙◌, arith}
 use Rattle.qs_ranges.specs.Blocks.{block_at}
-use Rattle.qs_ranges.proofs.Pieces.{edited, read_block}
-use Rattle.qs_ranges.proofs.Lengthened.{as_many, lengthened}
+use Rattle.qs_ranges.proofs.Places.{edited, read_block}
+use Rattle.qs_ranges.proofs.Edits.{as_many, lengthened}
 use Rattle.qs_ranges.proofs.changes.lengthen_last.Goals as goal
 
 pub returns-clause-longer : goal.returns-clause-longer

@@ -1,5 +1,5 @@
 use Rattle.std.proofs.Common.{refl, arith}
-use Rattle.qs_send.proofs.Noted.{found_end, none_end, nothing_passed}
+use Rattle.qs_send.proofs.Outstanding.{found_end, none_end, nothing_passed}
 use Rattle.qs_send.proofs.gone.end_in_word.Goals as goal
 
 pub overflow_sub-result : goal.overflow_sub-result

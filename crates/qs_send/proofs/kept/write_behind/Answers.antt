@@ -1,10 +1,9 @@
-use Rattle.std.proofs.Common.{◌-◌, refl, arith, length}
+use Rattle.std.proofs.Common.{◌-◌, refl, arith, length, rules}
 use Rattle.qs_send.proofs.Around.{written_once, written_twice}
 use Rattle.qs_send.proofs.kept.write_behind.Goals as goal
 
 pub returns-then-bytes-room-clause-written : goal.returns-then-bytes-room-clause-written
-returns-then-bytes-room-clause-written c =
-    written_once c.args.start c.args.count c.place-at.result c.args.ring.now c.write_at.new.into c.args.bytes.now c.requires.begins c.requires.fits c.place-at.ensures.value (omega (arith, c.if-bytes-room.true)) c.write_at.ensures.same_len c.write_at.ensures.written
+returns-then-bytes-room-clause-written c = search (rules, written_once)
 
 pub returns-else-bytes-room-clause-written : goal.returns-else-bytes-room-clause-written
 returns-else-bytes-room-clause-written c =

@@ -1,5 +1,4 @@
-use Rattle.qs_send.proofs.Steps.{lawful_new}
-use Rattle.qs_send.proofs.Calls.{calls_keep_lawful}
+use Rattle.qs_send.proofs.Steps.{lawful_new, calls_keep_lawful}
 use Rattle.qs_send.proofs.laws.calls_keep_lawful.Goals as goal
 
 pub returns : goal.returns

@@ -1,4 +1,4 @@
-use Rattle.qs_send.proofs.Packets.{sendable_has_chunk, sendable_end_has_chunk}
+use Rattle.qs_send.proofs.Steps.{sendable_has_chunk, sendable_end_has_chunk}
 use Rattle.qs_send.proofs.laws.sendable_has_chunk.Goals as goal
 
 pub returns : goal.returns

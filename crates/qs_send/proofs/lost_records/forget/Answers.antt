@@ -1,6 +1,6 @@
 use Rattle.std.proofs.Common.{◌∙◌, rules, not, nat_eq}
 use Rattle.std.proofs.lemmas.Fn.{filter_same}
-use Rattle.qs_send.proofs.LostOrders.{filter-without}
+use Rattle.qs_send.proofs.Outstanding.{filter-without}
 use Rattle.qs_send.proofs.lost_records.forget.Goals as goal
 
 pub returns : goal.returns

@@ -1,8 +1,7 @@
 use Rattle.std.proofs.Common.{◌≡◌, ◌∙◌, refl, ◌-◌, ◌∷◌, length, ap, sym, subst, arith}
 use Rattle.qs_wire.specs.Acks.{FallBelow}
 use Rattle.qs_send.specs.AckPass.{Passing}
-use Rattle.qs_send.proofs.Passing.{passed_range}
-use Rattle.qs_send.proofs.LostPassing.{seen_lower, lost_turns_look, lost_turns_read, lost_turns_end, each_step, each_read, none_ahead}
+use Rattle.qs_send.proofs.Passing.{passed_range, seen_lower, lost_turns_look, lost_turns_read, lost_turns_end, each_step, each_read, none_ahead}
 use Rattle.qs_send.proofs.ack_pass.AckPass.next_lost.Goals as goal
 
 pub returns-then-not-read_range : goal.returns-then-not-read_range

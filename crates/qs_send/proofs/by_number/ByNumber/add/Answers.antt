@@ -2,7 +2,7 @@ use Rattle.std.proofs.Common.{◌∙◌, sym, ap}
 use Rattle.std.specs.FinMap as fmap
 use Rattle.qs_send.specs.ByNumber.{IsAt, map_of}
 use Rattle.qs_send.specs.LostRecords.{with_piece}
-use Rattle.qs_send.proofs.LostLists.{IsItem, item_at, get_at, map-set, one_more, rising-set, room_at}
+use Rattle.qs_send.proofs.Outstanding.{IsItem, item_at, get_at, map-set, one_more, rising-set, room_at}
 use Rattle.qs_send.proofs.by_number.ByNumber.add.Goals as goal
 
 pub push-requires : goal.push-requires

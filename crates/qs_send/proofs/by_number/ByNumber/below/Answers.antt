@@ -1,12 +1,10 @@
-use Rattle.std.proofs.Common.{◌≡◌, suc, ◌-◌, arith, subst}
+use Rattle.std.proofs.Common.{◌≡◌, suc, ◌-◌, arith, subst, rules}
 use Rattle.qs_send.specs.ByNumber.{IsCut}
-use Rattle.qs_send.proofs.LostLists.{greatest_before, nothing_before}
+use Rattle.qs_send.proofs.Outstanding.{greatest_before, nothing_before}
 use Rattle.qs_send.proofs.by_number.ByNumber.below.Goals as goal
 
 pub returns-then-count-eq0-clause-none : goal.returns-then-count-eq0-clause-none
-returns-then-count-eq0-clause-none c =
-    let none : c.count_near-count.result ≡ 0 = omega (arith, c.if-count-eq0.true) in
-    rw (← c.self.view_is) (nothing_before c.args.number c.self.inside.records.items c.self.invariant.0 (subst (IsCut c.args.number c.self.inside.records.items) none (rw (← c.self.view_is) at c.count_near-count.ensures.cut)))
+returns-then-count-eq0-clause-none c = rw (← c.self.view_is) (search (rules, nothing_before))
 
 pub returns-clause-found : goal.returns-clause-found
 returns-clause-found c =

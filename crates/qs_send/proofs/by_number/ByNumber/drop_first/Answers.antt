@@ -1,7 +1,7 @@
-use Rattle.std.proofs.Common.{◌∙◌, ◌<◌, ◌≤◌, length, sym, ap, subst}
+use Rattle.std.proofs.Common.{◌∙◌, ◌<◌, length, sym, ap, subst, rules}
 use Rattle.qs_send.specs.ByNumber.{IsAt, map_of}
 use Rattle.qs_send.specs.Records.{without_first}
-use Rattle.qs_send.proofs.LostLists.{item_at, same_item, get_at, map-set, first_gone, last_gone, some_left, rising-set}
+use Rattle.qs_send.proofs.Outstanding.{item_at, same_item, get_at, map-set, first_gone, last_gone, some_left, rising-set}
 use Rattle.qs_send.proofs.by_number.ByNumber.drop_first.Goals as goal
 
 pub invariant_of-self : goal.invariant_of-self
@@ -18,13 +18,7 @@ invariant_of-self c =
     )
 
 pub returns-then-is_last : goal.returns-then-is_last
-returns-then-is_last c =
-    let rs = c.self.inside.records.items in
-    let x = c.index.result.now in
-    let place : IsAt c.args.number rs c.in-Ok.place = rw (← c.self.view_is) at c.in-Ok.ensures.found in
-    let item = item_at c.args.number 0 rs c.in-Ok.place x c.self.invariant.0 place c.index.ensures in
-    let one : length x.pieces ≤ 1 = c.is_last.ensures.one c.if-is_last.true in
-    c.remove.ensures ∙ rw (← c.self.view_is) (last_gone (map_of rs) c.args.number x.pieces one ∙ sym (ap (without_first (map_of rs) c.args.number) (get_at c.args.number rs x item)))
+returns-then-is_last c = search (rules, item_at, last_gone, get_at)
 
 pub returns-else-is_last : goal.returns-else-is_last
 returns-else-is_last c =

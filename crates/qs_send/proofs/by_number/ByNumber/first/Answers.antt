@@ -1,7 +1,7 @@
 use Rattle.std.proofs.Common.{◌∙◌, sym, ap}
 use Rattle.qs_send.specs.Records.{first_piece}
 use Rattle.qs_send.specs.ByNumber.{IsAt}
-use Rattle.qs_send.proofs.LostLists.{item_at, get_at}
+use Rattle.qs_send.proofs.Outstanding.{item_at, get_at}
 use Rattle.qs_send.proofs.by_number.ByNumber.first.Goals as goal
 
 pub returns-in-Ok : goal.returns-in-Ok

@@ -1,5 +1,5 @@
 use Rattle.std.proofs.Common.{◌≡◌, ◌-◌, subst, arith, slice_index_or}
-use Rattle.qs_send.proofs.LostLists.{cut_by}
+use Rattle.qs_send.proofs.Outstanding.{cut_by}
 use Rattle.qs_send.proofs.by_number.ByNumber.parts_at.Goals as goal
 use Rattle.qs_send.proofs.by_number.ByNumber.parts_at.Goals.{else-count-gt0-via-then-count-gt0+else-number, else-count-gt0-via-else-count-gt0}
 use Rattle.qs_send.proofs.by_number.ByNumber.parts_at.Goals.{else-count-len-2-via-then-count-len-2+else-number-2, else-count-len-2-via-else-count-len-2}

@@ -1,6 +1,6 @@
-use Rattle.std.proofs.Common.{◌<◌, ◌∙◌, Ok, Err, subst, sym, arith}
+use Rattle.std.proofs.Common.{◌<◌, ◌∙◌, Ok, subst, sym, arith, rules}
 use Rattle.qs_send.specs.ByNumber.{IsAt, IsGapAt}
-use Rattle.qs_send.proofs.LostLists.{at_first, gap_past, gap_none, held_by}
+use Rattle.qs_send.proofs.Outstanding.{at_first, gap_past, gap_none, held_by}
 use Rattle.qs_send.proofs.by_number.ByNumber.place_of.Goals as goal
 
 gap : (c : goal.Then-number) → IsGapAt c.args.number c.self.inside.records.items c.len-count.result
@@ -10,7 +10,7 @@ pub returns-then-number-clause-gap : goal.returns-then-number-clause-gap
 returns-then-number-clause-gap c = rw (← c.self.view_is) (gap c)
 
 pub returns-then-number-clause-is : goal.returns-then-number-clause-is
-returns-then-number-clause-is c = rw (← c.self.view_is) (held_by c.args.number c.self.inside.records.items (Err c.len-count.result) c.self.invariant.0 tt (gap c))
+returns-then-number-clause-is c = rw (← c.self.view_is) (search (rules, held_by, gap))
 
 pub returns-then-number-clause-none : goal.returns-then-number-clause-none
 returns-then-number-clause-none c = rw (← c.self.view_is) (gap_none c.args.number 0 c.self.inside.records.items c.len-count.result c.self.invariant.0 (gap c))

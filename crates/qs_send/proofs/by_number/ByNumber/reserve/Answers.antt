@@ -1,7 +1,7 @@
 use Rattle.std.proofs.Common.{◌∙◌, ◌<◌, sym, ap, subst, length}
 use Rattle.std.specs.FinMap as fmap
 use Rattle.qs_send.specs.ByNumber.{IsAt, map_of}
-use Rattle.qs_send.proofs.LostLists.{item_at, get_at, map-set, insert_same, rising-set, reserved_at, room_set, room_gone}
+use Rattle.qs_send.proofs.Outstanding.{item_at, get_at, map-set, insert_same, rising-set, reserved_at, room_set, room_gone}
 use Rattle.qs_send.proofs.by_number.ByNumber.reserve.Goals as goal
 
 pub invariant_of-self : goal.invariant_of-self

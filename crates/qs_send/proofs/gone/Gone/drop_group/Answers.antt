@@ -1,4 +1,4 @@
-use Rattle.qs_send.proofs.Noted.{full_less}
+use Rattle.qs_send.proofs.Outstanding.{full_less}
 use Rattle.qs_send.proofs.gone.Gone.drop_group.Goals as goal
 
 pub invariant_of-self : goal.invariant_of-self

@@ -1,6 +1,6 @@
 use Rattle.std.proofs.Common.{◌≤◌, ◌<◌, ◌+◌, max}
 use Rattle.qs_send.specs.AckPass.{more_turns}
-use Rattle.qs_send.proofs.Noted.{IsGoneFrom}
+use Rattle.qs_send.proofs.Outstanding.{IsGoneFrom}
 use Rattle.qs_send.proofs.gone.Gone.end_of_left.Given as goal
 
 abbrev pub invariant-loop-left : goal.invariant-loop-left

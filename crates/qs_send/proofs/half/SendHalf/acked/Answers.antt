@@ -1,6 +1,6 @@
 use Rattle.std.proofs.Common.{arith}
-use Rattle.qs_send.proofs.Freed.{freed_acked}
-use Rattle.qs_send.proofs.Sets.{fin-acked}
+use Rattle.qs_send.proofs.Around.{freed_acked}
+use Rattle.qs_send.proofs.Runs.{fin-acked}
 use Rattle.qs_send.proofs.Steps.{lawful_acked}
 use Rattle.qs_send.proofs.half.SendHalf.acked.Goals as goal
 

@@ -1,7 +1,7 @@
 use Rattle.std.proofs.Common.{◌+◌, ◌≤◌, ◌<◌, sym}
 use Rattle.qs_wire.specs.Varint.{short_len}
 use Rattle.qs_send.specs.Chunks.{offset_len}
-use Rattle.qs_send.proofs.Choose.{end_next, end_too_long}
+use Rattle.qs_send.proofs.Steps.{end_next, end_too_long}
 use Rattle.qs_send.proofs.half.SendHalf.end_chunk.Goals as goal
 
 pub returns-then-room-head_len-clause-none : goal.returns-then-room-head_len-clause-none

@@ -1,5 +1,5 @@
 use Rattle.std.proofs.Common.{arith, sym}
-use Rattle.qs_send.proofs.Sets.{fin-lost}
+use Rattle.qs_send.proofs.Runs.{fin-lost}
 use Rattle.qs_send.proofs.Steps.{lawful_lost}
 use Rattle.qs_send.proofs.half.SendHalf.lost.Goals as goal
 

@@ -1,7 +1,6 @@
-use Rattle.std.proofs.Common.{arith, refl, sym, ◌∙◌}
-use Rattle.qs_send.proofs.Calls.{not_refused}
-use Rattle.qs_send.proofs.Freed.{freed_open}
-use Rattle.qs_send.proofs.Steps.{lawful_write, write_nothing}
+use Rattle.std.proofs.Common.{arith, sym, ◌∙◌, rules}
+use Rattle.qs_send.proofs.Steps.{not_refused, lawful_write, write_nothing}
+use Rattle.qs_send.proofs.Around.{freed_open}
 use Rattle.qs_send.proofs.half.SendHalf.write.Goals as goal
 
 pub invariant_of-self-2 : goal.invariant_of-self-2
@@ -20,9 +19,4 @@ invariant_of-self-2 c =
     (lawful_write _ _ open_lane unfinished (omega (arith, taken, len, most, small)) (omega (arith, taken, len, most, room, buffered, widest)) h, c.in_default-write.ensures.room (omega (arith, taken, len, most, room, buffered, widest)) c.self.invariant.1, freed_open _ _ _ _ h open_lane unfinished)
 
 pub returns-then-len-eq0-clause-accepted : goal.returns-then-len-eq0-clause-accepted
-returns-then-len-eq0-clause-accepted c =
-    let room = rw (← c.self.view_is) at c.room.ensures in (
-      sym c.refusal.ensures ∙ c.in_default.is,
-      rw (← c.self.view_is, ← room, ← c.written.ensures.exact, ← c.min-most.ensures, ← c.min-len.ensures, c.if-len-eq0.true) refl,
-      write_nothing _,
-    )
+returns-then-len-eq0-clause-accepted c = search (rules, write_nothing)

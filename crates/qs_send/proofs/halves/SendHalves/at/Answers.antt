@@ -1,18 +1,18 @@
-use Rattle.std.proofs.Common.{sym, ◌∙◌, arith}
-use Rattle.qs_send.proofs.SlotEdits.{in_slots, place_there, full_read, over_is, over_slot}
+use Rattle.std.proofs.Common.{sym, ◌∙◌, arith, rules}
+use Rattle.qs_send.proofs.Slots.{in_slots, place_there, full_read, over_is, over_slot}
 use Rattle.qs_send.proofs.halves.SendHalves.at.Goals as goal
 
 pub index-slot-requires : goal.index-slot-requires
 index-slot-requires c = let t = in_slots _ _ _ _ c.args.index c.self.view_is c.requires in omega (arith, t)
 
 pub overflow_mul-number : goal.overflow_mul-number
-overflow_mul-number c = let t = in_slots _ _ _ _ c.args.index c.self.view_is c.requires in omega (arith, t, c.self.invariant.1.few)
+overflow_mul-number c = search (rules, in_slots)
 
 pub overflow_add-number : goal.overflow_add-number
-overflow_add-number c = let t = in_slots _ _ _ _ c.args.index c.self.view_is c.requires in omega (arith, t, c.self.invariant.1.few, c.self.invariant.0)
+overflow_add-number c = search (rules, in_slots)
 
 pub of_over-requires-clause-number : goal.of_over-requires-clause-number
-of_over-requires-clause-number c = let t = in_slots _ _ _ _ c.args.index c.self.view_is c.requires in omega (arith, t, c.self.invariant.1.few, c.self.invariant.0)
+of_over-requires-clause-number c = search (rules, in_slots)
 
 pub of_over-requires-clause-slot : goal.of_over-requires-clause-slot
 of_over-requires-clause-slot c =
@@ -20,17 +20,10 @@ of_over-requires-clause-slot c =
     over_slot c.self.inside.stream_type c.self.inside.full.items c.self.inside.slots.items c.args.index c.index-slot.result.now c.self.invariant.1 t c.index-slot.ensures c.in-Some.written (sym c.get.ensures.value ∙ c.in-Some.is)
 
 pub index-requires : goal.index-requires
-index-requires c =
-    let t = in_slots _ _ _ _ c.args.index c.self.view_is c.requires in
-    let p = place_there c.self.inside.stream_type c.self.inside.full.items c.self.inside.slots.items c.args.index c.index-slot.result.now c.self.invariant.1 t c.index-slot.ensures (sym c.get.ensures.value ∙ c.in-None.is) in
-    omega (arith, p)
+index-requires c = search (rules, in_slots, place_there)
 
 pub returns-in-Some-clause-half : goal.returns-in-Some-clause-half
-returns-in-Some-clause-half c =
-    let t = in_slots _ _ _ _ c.args.index c.self.view_is c.requires in
-    rw (← c.self.view_is) (c.of_over.ensures.half ∙ sym (over_is c.self.inside.stream_type c.self.inside.full.items c.self.inside.slots.items c.args.index c.index-slot.result.now c.self.invariant.1 t c.index-slot.ensures c.in-Some.written (sym c.get.ensures.value ∙ c.in-Some.is)))
+returns-in-Some-clause-half c = rw (← c.self.view_is) (search (rules, in_slots, over_is))
 
 pub returns-in-None-clause-half : goal.returns-in-None-clause-half
-returns-in-None-clause-half c =
-    let t = in_slots _ _ _ _ c.args.index c.self.view_is c.requires in
-    rw (← c.self.view_is) (c.of_full.ensures.half ∙ full_read c.self.inside.stream_type c.self.inside.full.items c.self.inside.slots.items c.args.index c.index-slot.result.now c.self.invariant.1 t c.index-slot.ensures c.index.result.now (sym c.get.ensures.value ∙ c.in-None.is) c.index.ensures)
+returns-in-None-clause-half c = rw (← c.self.view_is) (search (rules, in_slots, full_read))

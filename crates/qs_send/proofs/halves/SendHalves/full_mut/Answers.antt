@@ -1,6 +1,5 @@
 use Rattle.std.proofs.Common.{◌≡◌, length, true, is_some, arith}
-use Rattle.qs_send.proofs.SlotEdits.{in_slots}
-use Rattle.qs_send.proofs.Lent.{lent_found, lent_over, lends_back}
+use Rattle.qs_send.proofs.Slots.{in_slots, lent_found, lent_over, lends_back}
 use Rattle.qs_send.proofs.halves.SendHalves.full_mut.Goals as goal
 
 pub index-requires : goal.index-requires

@@ -1,16 +1,13 @@
-use Rattle.std.proofs.Common.{refl, arith}
+use Rattle.std.proofs.Common.{refl, rules}
 use Rattle.qs_send.specs.Lane.{after_blocked}
-use Rattle.qs_send.proofs.SlotEdits.{none_of, in_slots, place_there, changed_full, changed_over, blocked_over}
+use Rattle.qs_send.proofs.Slots.{none_of, in_slots, place_there, changed_full, changed_over, blocked_over}
 use Rattle.qs_send.proofs.halves.SendHalves.note_blocked.Goals as goal
 
 pub index_mut-slot-requires : goal.index_mut-slot-requires
-index_mut-slot-requires c = let t = in_slots _ _ _ _ c.args.index c.self.view_is c.requires in omega (arith, t)
+index_mut-slot-requires c = search (rules, in_slots)
 
 pub index_mut-requires : goal.index_mut-requires
-index_mut-requires c =
-    let t = in_slots _ _ _ _ c.args.index c.self.view_is c.requires in
-    let p = place_there c.self.inside.stream_type c.self.inside.full.items c.self.inside.slots.items c.args.index c.index_mut-slot.result.now c.self.invariant.1 t c.index_mut-slot.ensures.value (none_of _ c.if-not-is_over.ensures) in
-    omega (arith, p)
+index_mut-requires c = search (rules, in_slots, place_there, none_of)
 
 pub returns-then-not-is_over : goal.returns-then-not-is_over
 returns-then-not-is_over c =

@@ -1,6 +1,5 @@
 use Rattle.std.proofs.Common.{◌-◌, ◌≤◌, length, arith}
-use Rattle.qs_send.proofs.Slots.{placed_take}
-use Rattle.qs_send.proofs.SlotEdits.{last_left, none_left}
+use Rattle.qs_send.proofs.Slots.{placed_take, last_left, none_left}
 use Rattle.qs_send.proofs.halves.SendHalves.truncate.Goals as goal
 
 pub loop-self-preserved : goal.loop-self-preserved

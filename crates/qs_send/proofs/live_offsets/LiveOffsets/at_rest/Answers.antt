@@ -1,6 +1,6 @@
 use Rattle.std.proofs.Common.{refl}
-use Rattle.qs_send.proofs.AtRest.{offsets_at_rest}
-use Rattle.qs_send.proofs.Sets.{nothing-due}
+use Rattle.qs_send.proofs.Steps.{offsets_at_rest}
+use Rattle.qs_send.proofs.Runs.{nothing-due}
 use Rattle.qs_send.proofs.live_offsets.LiveOffsets.at_rest.Goals as goal
 
 pub invariant_of-result : goal.invariant_of-result

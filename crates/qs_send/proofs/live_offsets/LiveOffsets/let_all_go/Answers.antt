@@ -1,7 +1,7 @@
 use Rattle.std.proofs.Common.{◌≡◌, [], refl, ◌∙◌, arith}
 use Rattle.std.proofs.lemmas.List.{drop_all}
-use Rattle.qs_send.proofs.AtRest.{offsets_without}
-use Rattle.qs_send.proofs.Sets.{due-none}
+use Rattle.qs_send.proofs.Steps.{offsets_without}
+use Rattle.qs_send.proofs.Runs.{due-none}
 use Rattle.qs_send.proofs.live_offsets.LiveOffsets.let_all_go.Goals as goal
 
 none_left : (c : goal.After-drop_below) → c.let_go.new.self.bytes ≡ []

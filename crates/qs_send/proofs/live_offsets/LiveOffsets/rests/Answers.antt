@@ -1,6 +1,6 @@
 use Rattle.std.proofs.Common.{◌≡◌, ℕ, ◌==◌, IsTrue, arith}
 use Rattle.std.proofs.lemmas.Bool.Decides.{nat_tests}
-use Rattle.qs_send.proofs.AtRest.{rests_when}
+use Rattle.qs_send.proofs.Steps.{rests_when}
 use Rattle.qs_send.proofs.live_offsets.LiveOffsets.rests.Goals as goal
 
 equal_to : (low w : ℕ) → IsTrue (low == w) → low ≡ w

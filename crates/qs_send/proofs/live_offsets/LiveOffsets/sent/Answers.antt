@@ -1,6 +1,6 @@
 use Rattle.std.proofs.Common.{refl, arith}
-use Rattle.qs_send.proofs.AtRest.{offsets_sent}
-use Rattle.qs_send.proofs.Sets.{due-sent}
+use Rattle.qs_send.proofs.Steps.{offsets_sent}
+use Rattle.qs_send.proofs.Runs.{due-sent}
 use Rattle.qs_send.proofs.live_offsets.LiveOffsets.sent.Goals as goal
 
 pub invariant_of-self : goal.invariant_of-self

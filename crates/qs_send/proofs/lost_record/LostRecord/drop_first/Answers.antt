@@ -1,6 +1,6 @@
-use Rattle.std.proofs.Common.{sym}
+use Rattle.std.proofs.Common.{rules}
 use Rattle.std.proofs.lemmas.List.{drop-drop}
 use Rattle.qs_send.proofs.lost_record.LostRecord.drop_first.Goals as goal
 
 pub returns-clause-pieces : goal.returns-clause-pieces
-returns-clause-pieces c = rw (← c.self.view_is) (sym (drop-drop 1 c.self.inside.start c.self.inside.pieces.items))
+returns-clause-pieces c = rw (← c.self.view_is) (search (rules, drop-drop))

@@ -1,4 +1,4 @@
-use Rattle.qs_send.proofs.LostOrders.{order_added}
+use Rattle.qs_send.proofs.Outstanding.{order_added}
 use Rattle.qs_send.proofs.lost_records.LostRecords.add.Goals as goal
 
 pub invariant_of-self : goal.invariant_of-self

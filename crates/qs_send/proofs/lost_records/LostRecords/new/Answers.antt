@@ -1,4 +1,4 @@
-use Rattle.qs_send.proofs.LostOrders.{order_of_nothing}
+use Rattle.qs_send.proofs.Outstanding.{order_of_nothing}
 use Rattle.qs_send.proofs.lost_records.LostRecords.new.Goals as goal
 
 pub invariant_of-result : goal.invariant_of-result

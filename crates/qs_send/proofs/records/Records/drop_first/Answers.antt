@@ -1,10 +1,9 @@
-use Rattle.std.proofs.Common.{◌≡◌, ◌∙◌, ℕ, ◌+◌, ◌<◌, cond, nat_eq, List, [], Option, length, drop, slice_set, slice_index_or, false, refl, sym, ap, subst, arith}
+use Rattle.std.proofs.Common.{◌≡◌, ◌∙◌, ℕ, ◌+◌, ◌<◌, cond, nat_eq, List, [], Option, length, drop, slice_set, slice_index_or, false, refl, sym, ap, subst, arith, rules}
 use Rattle.std.proofs.lemmas.List.{get_or_read, length-set}
 use Rattle.std.specs.FinMap as fmap
 use Rattle.qs_send.specs.declared.piece.Piece.{Piece}
-use Rattle.qs_send.specs.Records.{IsSlotOf, Recorded, slot_at, packets_of, without_first}
-use Rattle.qs_send.proofs.Outstanding.{kept, found, found_set, get-slot, get-packets_of, packets_of-is}
-use Rattle.qs_send.proofs.Carrying.{rest_of, get-without_first, unheld-without_first}
+use Rattle.qs_send.specs.Records.{IsSlotOf, slot_at, packets_of, without_first}
+use Rattle.qs_send.proofs.Outstanding.{kept, found, found_set, get-slot, get-packets_of, packets_of-is, rest_of, get-without_first, unheld-without_first}
 use Rattle.qs_send.proofs.records.Records.drop_first.Goals as goal
 
 rest_kept : (s : List Piece) → kept (drop 1 s) ≡ rest_of (kept s)
@@ -26,9 +25,7 @@ now base k n ss slot rest at value is =
     ap (λ s. packets_of base (slice_set ss k s)) (is ∙ ap (drop 1) item) ∙ shorter base k n ss at.number at.within
 
 pub returns-in-Some-clause-pieces : goal.returns-in-Some-clause-pieces
-returns-in-Some-clause-pieces c =
-    let at : IsSlotOf c.self.inside.base (length c.self.inside.slots.items) c.args.number c.in-Some.place = rw (← c.self.view_is) at c.in-Some.ensures.found in
-    ap (λ (r : Recorded). r.pieces) c.note.ensures ∙ rw (← c.self.view_is) (now c.self.inside.base c.in-Some.place c.args.number c.self.inside.slots.items _ _ at c.index_mut.ensures.value c.drop_first.ensures)
+returns-in-Some-clause-pieces c = search (rules, found, now)
 
 pub invariant_of-self : goal.invariant_of-self
 invariant_of-self c =

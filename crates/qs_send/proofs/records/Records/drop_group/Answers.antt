@@ -1,6 +1,6 @@
 use Rattle.std.proofs.Common.{arith}
 use Rattle.qs_send.specs.Records.{packets_of}
-use Rattle.qs_send.proofs.Noted.{gone_less}
+use Rattle.qs_send.proofs.Outstanding.{gone_less}
 use Rattle.qs_send.proofs.records.Records.drop_group.Goals as goal
 
 pub invariant_of-self : goal.invariant_of-self

@@ -1,6 +1,6 @@
 use Rattle.std.proofs.Common.{arith}
 use Rattle.qs_send.specs.Records.{packets_of}
-use Rattle.qs_send.proofs.Noted.{gone_below}
+use Rattle.qs_send.proofs.Outstanding.{gone_below}
 use Rattle.qs_send.proofs.records.Records.end_of_left.Goals as goal
 
 pub returns-in-Some-clause-gone : goal.returns-in-Some-clause-gone

@@ -1,4 +1,4 @@
-use Rattle.qs_send.proofs.Overs.{over_lawful}
+use Rattle.qs_send.proofs.Slots.{over_lawful}
 use Rattle.qs_send.proofs.view.SendView.of_over.Goals as goal
 
 pub invariant_of-result : goal.invariant_of-result
