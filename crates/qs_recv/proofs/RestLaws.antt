@@ -1,27 +1,106 @@
--- A receiving half at rest stays so, and is what it says.
---     sound_at_rest, let_go_at_rest      what holds of a half that was made of it
---     at_rest_new, at_rest_reset, ..      each call keeps it
-use Rattle.std.specs.Prelude.{◌≡◌, ℕ, ◌+◌, ◌-◌, ◌<◌, ◌≤◌, ◌⊎◌, Bool, true, false, cond, ◌||◌, nat_le, List, length, Option, None, Some, is_some, refl, IsOk, unwrap_or}
-use Rattle.std.proofs.Common.{sym, ◌∙◌, ap, subst, arith, inl, inr}
+-- What a receiving half lets go stays so.
+--     let_go_noted, let_go_read, ..      each call keeps it
 use Rattle.std.specs.FinMap as map
 use Rattle.std.specs.FinSet as set
-use Rattle.std.proofs.lemmas.Bool.{both_ways, cases_lt, or_right, false_from_ne_true, leb-true, le-leb}
+use Rattle.std.proofs.Common.{◌≡◌, ℕ, ◌+◌, ◌≤◌, ◌⊎◌, Bool, true, false, cond, List, length, Some, is_some, ap, arith, ◌||◌, sym, ◌∙◌, subst, inr, ◌&&◌, []}
+use Rattle.std.specs.Prelude.{◌<◌, Option, unwrap_or, IsOk, ◌-◌, Result, OnErr, nat_le, None, refl}
+use Rattle.std.proofs.lemmas.Bool.{both_ways, false_from_ne_true, or_right}
 use Rattle.std.proofs.lemmas.Bool.Decides.{nat_tests}
-use Rattle.qs_ranges.specs.Numbers.{MAX_VARINT, ContainsRange, MissesRange, numbers, same_numbers, contains-with_range, covers, end_of, is_within}
-use Rattle.qs_ranges.proofs.Sets.{below-end_of, covers-is, covers-of, numbers-none}
-use Rattle.qs_recv.specs.Assembled.{at_rest, put, front_of, discard, forget}
-use Rattle.qs_recv.specs.Lane.{MAX_WINDOW, RecvLane, new_lane, highest, highest_after, is_whole, at_final_size, check_stream, take_stream, check_reset, take_reset, read_answer}
+use Rattle.qs_ranges.specs.Numbers.{covers, end_of, NumberSet, MissesRange, MAX_VARINT, ContainsRange, numbers, same_numbers, contains-with_range, is_within}
+use Rattle.qs_ranges.proofs.Sets.{below-end_of, covers-of, covers-is, numbers-none}
+use Rattle.qs_recv.specs.Assembled.{put, take_front, at_rest, discard, forget, Assembled}
+use Rattle.qs_recv.specs.Lane.{RecvLane, check_stream, breaks_known, highest, at_final_size, MAX_WINDOW, new_lane, highest_after, is_whole, take_stream, check_reset, take_reset, read_answer, whole_to, is_over, bytes_read, bytes_of, after_read, after_answer, raise, next_limit, stop, stop_and_discard, taken}
+use Rattle.qs_recv.specs.Lawful.{IsLawful}
+use Rattle.qs_recv.specs.Sound.{IsLetGo, IsSound, CodeFits}
+use Rattle.qs_recv.proofs.LawfulLaws.{same_size, len_within, unbroken, end_of-below, contains-below, highest-take_stream, lawful_new, lawful_take_stream, read_within, same_tests, sound_reset, sound_stop}
 use Rattle.qs_recv.specs.declared.credit.Share.{Share}
 use Rattle.qs_recv.specs.declared.window.Windows.{Windows}
-use Rattle.qs_recv.specs.declared.half.Read.TheVariants.{Bytes, End, Wait}
-use Rattle.qs_recv.specs.Lawful.{IsLawful}
-use Rattle.qs_recv.specs.Sound.{IsSound, IsLetGo, CodeFits}
+use Rattle.qs_recv.specs.declared.half.Read.TheVariants.{End, Wait}
 use Rattle.qs_recv.specs.Rest.{given, lane_at_rest, IsAtRest, EndsAt}
-use Rattle.qs_recv.proofs.GrowthLaws.{same_size}
-use Rattle.qs_recv.proofs.LawfulLaws.{end_of-below, contains-below, highest-take_stream, lawful_new, lawful_take_stream, read_within, unbroken}
-use Rattle.qs_recv.proofs.LetGoLaws.{none_left}
 use Rattle.qs_recv.proofs.RingLaws.{put_known}
-use Rattle.qs_recv.proofs.SoundLaws.{same_tests, sound_reset, sound_stop}
+use Rattle.std.specs.Result.{IsOk as IsOkOfResult}
+use Rattle.qs_recv.specs.Over.{IsOver}
+
+-- where bytes are thrown away
+pub let_go_gone : (lane : RecvLane) (size : ℕ) → lane.arrived.discarding ≡ true → size ≡ 0 → IsLetGo lane size
+let_go_gone lane size off none = record { gone = λ _. none; over = λ _. none; ended = λ _ on. absurd (both_ways _ on off) }
+
+-- a frame lies within a known final size
+within_size : (f : Option ℕ) (end n size : ℕ) (fin : Bool) (before : ℕ) → breaks_known f end n fin before ≡ false → f ≡ Some size → 0 < n → end ≤ size
+within_size f end n size fin before h is some = grind (arith, nat_tests)
+
+-- what a put does to the memory that is taken: none is, once the end was told
+put_still : (lane : RecvLane) (offset old new n : ℕ) (fin : Bool) → IsOk (check_stream lane offset n fin) → IsLawful lane → IsLetGo lane old
+    → (new ≡ old) ⊎ ((lane.arrived.discarding ≡ false) × (covers lane.arrived.received offset (offset + n) ≡ false)) → lane.reader_done ≡ true → new ≡ 0
+put_still lane offset old new n fin ok lawful h h2 reader_done = grind (arith, nat_tests, covers-of, within_size)
+
+put_gone : (lane : RecvLane) (old new : ℕ) (P : Type 0) → IsLetGo lane old → (new ≡ old) ⊎ ((lane.arrived.discarding ≡ false) × P) → lane.arrived.discarding ≡ true → new ≡ 0
+put_gone lane old new P h h2 off = grind (arith, nat_tests)
+
+pub let_go_noted : (lane : RecvLane) (offset old new : ℕ) (bytes : List ℕ) (fin : Bool) → IsOk (check_stream lane offset (length bytes) fin) → IsLawful lane → IsLetGo lane old
+    → (new ≡ old) ⊎ ((lane.arrived.discarding ≡ false) × (covers lane.arrived.received offset (offset + length bytes) ≡ false))
+    → IsLetGo (record lane { arrived = put lane.arrived offset bytes; final_size = cond fin (Some (offset + length bytes)) lane.final_size }) new
+let_go_noted lane offset old new bytes fin ok lawful h still =
+    record {
+      gone = put_gone lane old new _ h still;
+      over = put_still lane offset old new (length bytes) fin ok lawful h still;
+      ended = λ reader_done on. same_size lane.final_size (offset + length bytes) (length bytes) lane.arrived.read_count fin (highest lane) (unbroken lane offset (length bytes) fin ok) (h.ended reader_done on);
+    }
+
+-- a frame for which memory was refused
+pub let_go_refused : (lane : RecvLane) (offset old new n : ℕ) (fin : Bool) → IsOk (check_stream lane offset n fin) → IsLawful lane → IsLetGo lane old
+    → (new ≡ old) ⊎ ((lane.arrived.discarding ≡ false) × (covers lane.arrived.received offset (offset + n) ≡ false)) → IsLetGo lane new
+let_go_refused lane offset old new n fin ok lawful h still =
+    record {
+      gone = put_gone lane old new _ h still;
+      over = put_still lane offset old new n fin ok lawful h still;
+      ended = h.ended;
+    }
+
+-- a frame after a reset
+pub let_go_passed : (lane : RecvLane) (size end : ℕ) (fin : Bool) → is_some lane.reset_code ≡ true → IsLawful lane → IsLetGo lane size → IsLetGo (record lane { final_size = cond fin (Some end) lane.final_size }) size
+let_go_passed lane size end fin reset lawful h = grind (arith, nat_tests)
+
+-- nothing is stored once all of the stream was read
+pub none_left : (lane : RecvLane) → IsLawful lane → lane.final_size ≡ Some lane.arrived.read_count → map.len lane.arrived.stored ≡ 0
+none_left lane lawful all =
+    let most = len_within 0 lane.arrived.read_count lane.arrived.stored (λ q some.
+    let there = lawful.stored_received q some in
+    let below = below-end_of lane.arrived.received q there.1 in
+    let within = lawful.received_within in
+    let size : highest lane ≡ lane.arrived.read_count = ap (λ f. unwrap_or f (end_of lane.arrived.received)) all in
+    (there.0, absurd (omega (arith, there.0, below, within, size)))) in
+    omega (arith, most)
+
+pub let_go_ended : (lane : RecvLane) (size new : ℕ) → lane.final_size ≡ Some lane.arrived.read_count → IsLawful lane → IsLetGo lane size → (map.len lane.arrived.stored ≡ 0 → new ≡ 0) → IsLetGo (record lane { reader_done = true }) new
+let_go_ended lane size new all lawful h given = grind (arith, nat_tests, none_left)
+
+-- bytes are read while the end wasn't told
+pub let_go_read : (lane : RecvLane) (size new room : ℕ) → lane.arrived.discarding ≡ false → (lane.final_size ≡ Some lane.arrived.read_count → ⊥) → IsLetGo lane size → IsLetGo (record lane { arrived = take_front lane.arrived room }) new
+let_go_read lane size new room on more h = grind (arith, nat_tests)
+
+-- whether what was read is all of the stream, as it is tested
+pub all_read : (f : Option ℕ) (n : ℕ) → at_final_size n f ≡ true → f ≡ Some n
+all_read f n is = grind (arith, nat_tests)
+
+pub read_all : (f : Option ℕ) (n : ℕ) → f ≡ Some n → at_final_size n f ≡ true
+read_all f n is = grind (arith, nat_tests)
+
+-- ---- Where offsets are new, and what holds where memory is refused.
+
+-- some offsets of which none came
+apart_news : (r : NumberSet) (lo hi : ℕ) → lo < hi → MissesRange r (lo - 1) (hi + 1) → covers r lo hi ≡ false
+apart_news r lo hi some apart = false_from_ne_true (covers r lo hi) (λ is. both_ways _ (apart lo (omega arith) (omega arith)) (covers-is r lo hi is lo (omega arith) some))
+
+pub refused_news : {T E : Type 0} (res : Result T E) (r : NumberSet) (lo hi : ℕ) → OnErr res (lo < hi) → OnErr res (MissesRange r (lo - 1) (hi + 1)) → OnErr res (covers r lo hi ≡ false)
+refused_news res r lo hi some apart = grind (arith, nat_tests, apart_news)
+
+pub on_err : {T E P : Type 0} (res : Result T E) → P → OnErr res P
+on_err res p = grind (arith, nat_tests)
+
+-- ---- A receiving half at rest stays so, and is what it says.
+--     sound_at_rest, let_go_at_rest      what holds of a half that was made of it
+--     at_rest_new, at_rest_reset, ..      each call keeps it
 
 -- The numbers below one
 
@@ -32,10 +111,7 @@ news_below e offset end some new =
     grind (arith, nat_tests))
 
 pub known_below : (e offset end : ℕ) → (end ≤ offset) ⊎ (end ≤ e) → ContainsRange (numbers 0 e) offset end
-known_below e offset end known q low high = contains-below e q ∙ elim known [
-  | inl none ↦ absurd (omega arith)
-  | inr old ↦ grind (arith, nat_tests)
-]
+known_below e offset end known q low high = grind (arith, nat_tests, contains-below)
 
 -- What holds of a half that is made of one at rest
 
@@ -62,17 +138,10 @@ came_at_rest w n e limit f r s reader_done h =
     omega (arith, read, end)
 
 pub end_at_rest : (w : Windows) (n e limit : ℕ) (f r s : Option ℕ) (reader_done : Bool) → IsAtRest (lane_at_rest w n e limit f r s reader_done) n e → e ≤ MAX_VARINT
-end_at_rest w n e limit f r s reader_done h =
-    let end = end_of-below e in
-    omega (arith, end, h.lawful.received_within, h.lawful.granted, h.lawful.small_limit)
+end_at_rest w n e limit f r s reader_done h = grind (arith, nat_tests, end_of-below)
 
 pub whole_below : (e size : ℕ) → nat_le size e ≡ covers (numbers 0 e) 0 size
-whole_below e size =
-    same_tests _ _ (λ fits. covers-of (numbers 0 e) 0 size (known_below e 0 size (inr (leb-true size e fits))))
-    (λ all. elim (cases_lt e size) [
-      | inl more ↦ absurd (both_ways _ (news_below e 0 size (omega arith) more) all)
-      | inr fits ↦ le-leb size e fits
-    ])
+whole_below e size = grind (arith, nat_tests, covers-of, known_below, news_below)
 
 -- A new half
 
@@ -91,13 +160,7 @@ at_rest_new w share some small =
 -- Where bytes are thrown away
 
 at_rest_thrown : (lane : RecvLane) (n e : ℕ) → lane.arrived.discarding ≡ true → IsLawful lane → CodeFits lane.stop_code → IsAtRest lane n e
-at_rest_thrown lane n e off lawful fits =
-    record {
-      lawful = lawful;
-      stop_fits = fits;
-      all_read = λ on. absurd (both_ways _ on off);
-      ended = λ _ on. absurd (both_ways _ on off);
-    }
+at_rest_thrown lane n e off lawful fits = grind (arith, nat_tests)
 
 -- the offsets up to the largest are those that came
 below_itself : (w : Windows) (n e limit code size : ℕ) (s : Option ℕ) (reader_done : Bool)
@@ -120,9 +183,7 @@ reset_rest_is w n e limit code size f s reader_done not_whole =
 -- what a stop leaves
 pub stopped_at_rest : (w : Windows) (n e limit code : ℕ) (f r : Option ℕ) (reader_done : Bool)
     → (let lane : RecvLane = lane_at_rest w n e limit f r None reader_done in lane_at_rest w n e limit f r (Some code) reader_done ≡ record lane { arrived = discard lane.arrived; stop_code = Some code })
-stopped_at_rest w n e limit code f r reader_done =
-    let lane : RecvLane = lane_at_rest w n e limit f r None reader_done in
-    ap (λ off. record lane { arrived = at_rest w.widest n e off; stop_code = Some code }) (or_right (is_some r) true refl)
+stopped_at_rest w n e limit code f r reader_done = grind (arith, nat_tests)
 
 pub at_rest_stopped : (w : Windows) (n e limit code : ℕ) (f r : Option ℕ) (reader_done : Bool) → code ≤ MAX_VARINT
     → IsAtRest (lane_at_rest w n e limit f r None reader_done) n e → IsAtRest (lane_at_rest w n e limit f r (Some code) reader_done) n e
@@ -134,18 +195,13 @@ at_rest_stopped w n e limit code f r reader_done fits h =
 
 -- of its end where it is known and read, else nothing, where bytes aren't thrown away
 pub ends_at_rest : (w : Windows) (n e limit room : ℕ) (f : Option ℕ) (reader_done : Bool) → IsAtRest (lane_at_rest w n e limit f None None reader_done) n e → read_answer (lane_at_rest w n e limit f None None reader_done) room ≡ cond (at_final_size n f) End Wait
-ends_at_rest w n e limit room f reader_done h =
-    let lane : RecvLane = lane_at_rest w n e limit f None None reader_done in
-    let none : set.contains (numbers 0 e) n ≡ false = let all = h.all_read refl in contains-below e n ∙ grind (arith, nat_tests) in
-    ap (λ b. cond (at_final_size n f) End (cond b (Bytes (length (front_of lane.arrived room))) Wait)) none
+ends_at_rest w n e limit room f reader_done h = grind (arith, nat_tests, contains-below)
 
 -- A frame
 
 pub taken_at_rest : (w : Windows) (n e e' limit offset : ℕ) (f r s : Option ℕ) (reader_done : Bool) (bytes : List ℕ) (fin : Bool) → EndsAt (lane_at_rest w n e limit f r s reader_done) offset bytes e'
     → lane_at_rest w n e' limit (cond fin (Some (offset + length bytes)) f) r s reader_done ≡ take_stream (lane_at_rest w n e limit f r s reader_done) offset bytes fin
-taken_at_rest w n e e' limit offset f r s reader_done bytes fin h =
-    let lane : RecvLane = lane_at_rest w n e limit f r s reader_done in
-    ap (λ a. record lane { arrived = a; final_size = cond fin (Some (offset + length bytes)) f }) (sym h.arrived)
+taken_at_rest w n e e' limit offset f r s reader_done bytes fin h = grind (arith, nat_tests)
 
 pub at_rest_taken : (w : Windows) (n e e' limit offset : ℕ) (f r s : Option ℕ) (reader_done : Bool) (bytes : List ℕ) (fin : Bool) → EndsAt (lane_at_rest w n e limit f r s reader_done) offset bytes e'
     → IsOk (check_stream (lane_at_rest w n e limit f r s reader_done) offset (length bytes) fin)
@@ -189,11 +245,7 @@ union_below e lo hi touches ends =
 
 pub ends_more : (w : Windows) (n e limit offset code : ℕ) (f : Option ℕ) (reader_done : Bool) (bytes : List ℕ) → offset ≤ e → e ≤ offset + length bytes
     → EndsAt (lane_at_rest w n e limit f None (Some code) reader_done) offset bytes (offset + length bytes)
-ends_more w n e limit offset code f reader_done bytes touches ends =
-    record {
-      arrived = ap (λ r. record (at_rest w.widest n e true) { received = r }) (union_below e offset (offset + length bytes) touches ends);
-      all_read = λ on. absurd (both_ways true on refl);
-    }
+ends_more w n e limit offset code f reader_done bytes touches ends = grind (arith, nat_tests, union_below)
 
 -- where memory may be taken
 
@@ -205,18 +257,11 @@ apart_below e offset end new q low high = contains-below e q ∙ grind (arith, n
 -- what a reset leaves is at rest
 pub forgotten_is : (lane : RecvLane) (w n e code size : ℕ) → IsSound lane w n e
     → lane_at_rest (record { widest = w; size = lane.window; share = lane.share }) n e lane.limit (Some size) (Some code) lane.stop_code lane.reader_done ≡ record lane { arrived = forget lane.arrived; final_size = Some size; reset_code = Some code }
-forgotten_is lane w n e code size h =
-    ap (λ a. record lane { arrived = a; final_size = Some size; reset_code = Some code }) (sym (
-    ap (λ k. record { stored = map.empty; received = numbers 0 k; read_count = lane.arrived.read_count; widest = lane.arrived.widest; discarding = true }) h.end_is
-    ∙ ap (λ k. record { stored = map.empty; received = numbers 0 e; read_count = k; widest = lane.arrived.widest; discarding = true }) h.count_is
-    ∙ ap (λ k. record { stored = map.empty; received = numbers 0 e; read_count = n; widest = k; discarding = true }) h.window_is
-    ))
+forgotten_is lane w n e code size h = grind (arith, nat_tests)
 
 pub reset_is : (lane : RecvLane) (w n e code size : ℕ) → is_some lane.reset_code ≡ false → is_whole lane ≡ false → IsSound lane w n e
     → lane_at_rest (record { widest = w; size = lane.window; share = lane.share }) n e lane.limit (Some size) (Some code) lane.stop_code lane.reader_done ≡ take_reset lane code size
-reset_is lane w n e code size no_reset not_whole h =
-    let after : RecvLane = record lane { arrived = forget lane.arrived; final_size = Some size; reset_code = Some code } in
-    forgotten_is lane w n e code size h ∙ sym (ap (λ b. cond (b || is_whole lane) lane after) no_reset ∙ ap (λ b. cond b lane after) not_whole)
+reset_is lane w n e code size no_reset not_whole h = grind (arith, nat_tests)
 
 pub reset_at_rest : (lane : RecvLane) (w n e code size : ℕ) → is_some lane.reset_code ≡ false → is_whole lane ≡ false → IsOk (check_reset lane size) → IsSound lane w n e
     → IsAtRest (lane_at_rest (record { widest = w; size = lane.window; share = lane.share }) n e lane.limit (Some size) (Some code) lane.stop_code lane.reader_done) n e
@@ -231,28 +276,13 @@ is_done lane = lane.reader_done || is_some lane.stop_code
 
 -- until bytes are thrown away it was told
 done_told : (lane : RecvLane) → is_done lane ≡ true → IsLawful lane → lane.arrived.discarding ≡ false → lane.reader_done ≡ true
-done_told lane done lawful on = go lane.reader_done refl
-  where
-    go : (b : Bool) → lane.reader_done ≡ b → lane.reader_done ≡ true
-    go true is = is
-    go false is =
-        let stopped : is_some lane.stop_code ≡ true = sym (ap (λ b. b || is_some lane.stop_code) is) ∙ done in
-        absurd (both_ways _ on (lawful.discards ∙ or_right (is_some lane.reset_code) (is_some lane.stop_code) stopped))
+done_told lane done lawful on = grind (arith, nat_tests)
 
 pub given_some : (b : Bool) (n : ℕ) → is_some (given b n) ≡ b
-given_some true n = refl
-given_some false n = refl
+given_some b n = grind (arith, nat_tests)
 
 pub done_at_rest : (lane : RecvLane) (w n e size : ℕ) → is_done lane ≡ true → IsSound lane w n e → IsLetGo lane size → IsAtRest lane n e
-done_at_rest lane w n e size done h let_go =
-    record {
-      lawful = h.lawful;
-      stop_fits = h.stop_fits;
-      all_read = λ on.
-          let all : highest lane ≡ lane.arrived.read_count = ap (λ f. unwrap_or f (end_of lane.arrived.received)) (let_go.ended (done_told lane done h.lawful on) on) in
-          omega (arith, all, h.lawful.received_within, read_within lane h.lawful, h.count_is, h.end_is);
-      ended = λ is on. let_go.ended is on ∙ ap Some h.count_is;
-    }
+done_at_rest lane w n e size done h let_go = grind (arith, nat_tests, read_within)
 
 nothing_left : (lane : RecvLane) (size : ℕ) → is_done lane ≡ true → IsLawful lane → IsLetGo lane size → lane.arrived.stored ≡ map.empty
 nothing_left lane size done h let_go = go lane.arrived.discarding refl
@@ -268,10 +298,52 @@ rested_is lane w n e size done all h let_go =
     let received : lane.arrived.received ≡ numbers 0 e =
     same_numbers _ _ (λ q. same_tests _ _ (λ is. contains-below e q ∙ (let below = below-end_of lane.arrived.received q is in let ends = h.end_is in grind (arith, nat_tests)))
     (λ is. let within : is_within 0 e q ≡ true = sym (contains-below e q) ∙ is in all q (omega arith) (grind (arith, nat_tests)))) in
-    ap (λ a. record lane { arrived = a }) (sym (
-    ap (λ m. record lane.arrived { stored = m }) stored
-    ∙ ap (λ r. record lane.arrived { stored = map.empty; received = r }) received
-    ∙ ap (λ k. record lane.arrived { stored = map.empty; received = numbers 0 e; read_count = k }) h.count_is
-    ∙ ap (λ k. record lane.arrived { stored = map.empty; received = numbers 0 e; read_count = n; widest = k }) h.window_is
-    ∙ ap (λ off. record lane.arrived { stored = map.empty; received = numbers 0 e; read_count = n; widest = w; discarding = off }) h.lawful.discards
-    ))
+    grind (arith, nat_tests)
+
+-- ---- Nothing that may still come or be called changes a half that was read to its end.
+
+-- the half stores nothing new of what came
+same_put : (a : Assembled) (offset : ℕ) (bytes : List ℕ) (end : ℕ) → a.received ≡ numbers 0 end → (length bytes ≡ 0) ⊎ (offset + length bytes ≤ end) → put a offset bytes ≡ a
+same_put a offset bytes end came within = grind (arith, nat_tests, put_known, known_below)
+
+-- what passed the test of the final size lies within it, and names it where it ends the stream
+unbroken_is : (size end n before : ℕ) (fin : Bool) → breaks_known (Some size) end n fin before ≡ false → ((n ≡ 0) ⊎ (end ≤ size)) × (fin ≡ true → end ≡ size)
+unbroken_is size end n before fin h = grind (arith, nat_tests)
+
+module _ (l : RecvLane) (h : IsOver l) where
+  whole : is_whole l ≡ true
+  whole = ap (whole_to l.arrived.received) h.size ∙ ap (λ r. covers r 0 l.arrived.read_count) h.came ∙ covers-of (numbers 0 l.arrived.read_count) 0 l.arrived.read_count (known_below l.arrived.read_count 0 l.arrived.read_count (inr (omega arith)))
+
+  pub over_read : (room : ℕ) → read_answer l room ≡ End
+  over_read room = grind (arith, nat_tests)
+
+  pub over_bytes : (room : ℕ) → bytes_read l room ≡ []
+  over_bytes room = ap (λ r. bytes_of r l room) (over_read room)
+
+  pub over_after_read : (room : ℕ) → after_read l room ≡ l
+  over_after_read room = ap (λ r. after_answer r l room) (over_read room) ∙ ap (λ b. record l { reader_done = b }) (sym h.reader_done)
+
+  pub over_stream : (offset : ℕ) (bytes : List ℕ) (fin : Bool) → IsOkOfResult (check_stream l offset (length bytes) fin) → take_stream l offset bytes fin ≡ l
+  over_stream offset bytes fin ok = grind (arith, nat_tests, unbroken_is, unbroken, same_put)
+
+  pub over_grown : (offset n : ℕ) (fin : Bool) → IsOkOfResult (check_stream l offset n fin) → highest_after l offset n fin ≡ highest l
+  over_grown offset n fin ok = grind (arith, nat_tests)
+
+  pub over_reset : (code size : ℕ) → take_reset l code size ≡ l
+  over_reset code size = ap (λ b. cond b l (record l { arrived = forget l.arrived; final_size = Some size; reset_code = Some code })) (or_right (is_some l.reset_code) (is_whole l) whole)
+
+  -- a reset that may be taken names the size that is known
+  pub over_size : (size : ℕ) → IsOkOfResult (check_reset l size) → highest l ≡ size
+  over_size size ok = grind (arith, nat_tests)
+
+  pub over_raise : raise l ≡ l
+  over_raise = ap (λ f. record l { limit = cond (is_some f) l.limit (next_limit l.limit (taken l) l.window l.share) }) h.size
+
+  pub over_over : is_over l ≡ true
+  over_over = ap (λ b. b && (is_some l.reset_code || is_whole l)) h.reader_done ∙ or_right (is_some l.reset_code) (is_whole l) whole
+
+  pub over_stop : (code : ℕ) → stop l code ≡ l
+  over_stop code = ap (λ b. cond b l (record l { arrived = discard l.arrived; stop_code = Some code })) (or_right (is_some l.stop_code) (is_over l) over_over)
+
+  pub over_forget : (code : ℕ) → stop_and_discard l code ≡ l
+  over_forget code = ap (λ (k : RecvLane). record k { reader_done = true }) (over_stop code) ∙ ap (λ b. record l { reader_done = b }) (sym h.reader_done)

@@ -1,52 +1,227 @@
--- What a ring answers, offset by offset, and that a put and a read do to it what they do to the map.
+-- What the words on stored bytes answer, offset by offset.
+--     get-store       the byte of an offset after a put: the new one where it lies in the run and didn't come before
+--     get-keep_from   after a read
+--     front_has, front_get      a front's offsets have a byte each, which stands there
+use Rattle.std.specs.FinMap as map
+use Rattle.std.specs.FinSet as set
+use borrow.Rule.Slice.PartMut.{put_mid}
+use Rattle.std.specs.Prelude.{◌≡◌, ℕ, ◌+◌, ◌-◌, ◌<◌, zero, suc, Bool, true, false, not, cond, if◌then◌else◌, ◌&&◌, ◌||◌, nat_le, nat_eq, max, List, [], ◌∷◌, length, slice_get, Option, None, Some, is_some, refl, ◌⊎◌, ◌≤◌, ◌++◌, take, drop, ◌/◌, ◌^◌, min, slice_index, Result, OnOk, OnErr}
+use Rattle.std.proofs.Common.{sym, ◌∙◌, ap, arith, append_assoc, length-drop, zero-add, add-zero, inl, inr}
+use Rattle.std.specs.Ordering.{nat_cmp}
+use Rattle.std.specs.Cmp.{nat_cmp_total, unsigned_tied}
+use Rattle.std.specs.FinMap.{nat_cmp-IsAntisymmetric, same_map}
+use Rattle.std.proofs.lemmas.Bool.Decides.{nat_tests}
+use Rattle.qs_ranges.specs.Numbers.{NumberSet, numbers, is_within, contains-with_range, end_of, ContainsRange, IsLeastMissingFrom, MissesRange, MAX_VARINT, contains-numbers, covers}
+use Rattle.qs_ranges.proofs.Sets.{end_of-with_range, end_of-with_none, with_range-covered, covers-is}
+use Rattle.qs_recv.specs.Assembled.{Assembled, store, put, front, front_from, keep_from, front_of, take_front, agrees, same}
+use Rattle.qs_recv.specs.Bytes.{byte_at, take_exactly}
+use Rattle.std.proofs.lemmas.Grind.{common_steps}
+use Rattle.std.proofs.lemmas.List.{take_at, drop_at, drop_all, take_all, drop-drop, length-take, get_or-take, get_or-drop}
+use Rattle.qs_recv.specs.Ring.{IsNextGap, IsNextRun, missing_count, IsRing, IsSizeFor, ring_bytes, stored_in_ring}
+use Rattle.std.specs.Int.{IsPowerOfTwo}
+use Rattle.std.proofs.lemmas.Bool.{both_ways, cases_lt, cases_Bool, and_right, or_left, or_right, ltb-true, false_from_ne_true, and_parts, and_from, eqb-true}
+use Rattle.std.proofs.lemmas.Option.{slice_get-get_or, get_or_from_slice_get, slice_get_within}
+use Rattle.qs_recv.specs.Lane.{MAX_WINDOW}
+
+-- the n numbers from lo on
+abbrev pub is_in_run : ℕ → ℕ → ℕ → Bool
+is_in_run q lo n = is_within lo (lo + n) q
+
+-- s and the n numbers from lo on
+abbrev pub with_run : NumberSet → ℕ → ℕ → NumberSet
+with_run s lo n = set.union s (numbers lo (lo + n))
+
+pub contains-with_run : (s : NumberSet) (lo n q : ℕ) → set.contains (with_run s lo n) q ≡ (set.contains s q || is_in_run q lo n)
+contains-with_run s lo n q = contains-with_range s lo (lo + n) q
+
+pub end_of-with_run : (s : NumberSet) (lo n : ℕ) → end_of (with_run s lo n) ≡ cond (nat_eq n 0) (end_of s) (max (end_of s) (lo + n))
+end_of-with_run s lo n = grind (arith, nat_tests, end_of-with_range, end_of-with_none)
+
+pub get-insert_nat : (m : map.FinMap nat_cmp ℕ) (k v q : ℕ) → map.get (map.insert m k v) q ≡ cond (nat_eq q k) (Some v) (map.get m q)
+get-insert_nat m k v q = map.get-insert nat_cmp_total m k v q ∙ ap (λ b. cond b (Some v) (map.get m q)) (unsigned_tied q k)
+
+pub get-keep_from : (m : map.FinMap nat_cmp ℕ) (at q : ℕ) → map.get (keep_from m at) q ≡ cond (nat_le at q) (map.get m q) None
+unfolding keep_from
+get-keep_from m at q = map.get-retain_keys m (λ offset. nat_le at offset) q (λ x e. ap (λ offset. nat_le at offset) (sym (nat_cmp-IsAntisymmetric q x e)))
+
+pub byte_at_front : (at q byte : ℕ) (bytes : List ℕ) → q ≡ at → byte_at at (byte ∷ bytes) q ≡ Some byte
+byte_at_front at q byte bytes e = grind (arith, nat_tests)
+
+pub byte_at_back : (at q byte : ℕ) (bytes : List ℕ) → at < q → byte_at at (byte ∷ bytes) q ≡ byte_at (at + 1) bytes q
+byte_at_back at q byte bytes h = grind (arith, nat_tests)
+
+store_one : (b : Bool) (m : map.FinMap nat_cmp ℕ) (at byte q : ℕ) → map.get (cond b m (map.insert m at byte)) q ≡ cond (not b && nat_eq q at) (Some byte) (map.get m q)
+store_one b m at byte q = grind (arith, nat_tests, get-insert_nat)
+
+pub get-store : (r : NumberSet) (m : map.FinMap nat_cmp ℕ) (at : ℕ) (bytes : List ℕ) (q : ℕ)
+    → map.get (store r m at bytes) q ≡ cond (is_in_run q at (length bytes) && not (set.contains r q)) (byte_at at bytes q) (map.get m q)
+unfolding store
+get-store r m at [] q = grind (arith, nat_tests)
+get-store r m at (byte ∷ bytes) q = grind (arith, nat_tests, get-store r (if set.contains r at then m else map.insert m at byte) (at + 1) bytes q, store_one, byte_at_front)
+
+front_has_at : (m : map.FinMap nat_cmp ℕ) (at : ℕ) (rest : List ℕ) (o : Option ℕ) → map.get m at ≡ o
+    → ((j : ℕ) → j < length rest → map.get m (at + 1 + j) ≡ slice_get rest j)
+    → (k : ℕ) → k < length (front_from o rest) → map.get m (at + k) ≡ slice_get (front_from o rest) k
+front_has_at m at rest o e later k h = grind (arith, nat_tests)
+
+-- the offsets of a front have its bytes
+pub front_has : (m : map.FinMap nat_cmp ℕ) (at size k : ℕ) → k < length (front m at size) → map.get m (at + k) ≡ slice_get (front m at size) k
+unfolding front
+front_has m at zero k h = absurd (omega arith)
+front_has m at (suc size) k h = front_has_at m at (front m (at + 1) size) (map.get m at) refl (front_has m (at + 1) size) k h
+
+is_some-kept : (b : Bool) (x : Option ℕ) → is_some (cond b x None) ≡ true → is_some x ≡ true
+is_some-kept b x h = grind (arith, nat_tests)
+
+-- an offset that is stored after a put was stored before or lies in the run
+pub stored_by_put : (r : NumberSet) (m : map.FinMap nat_cmp ℕ) (at : ℕ) (bytes : List ℕ) (q : ℕ)
+    → map.contains_key (store r m at bytes) q ≡ true → (is_in_run q at (length bytes) ≡ true) ⊎ (map.contains_key m q ≡ true)
+stored_by_put r m at bytes q h = grind (arith, nat_tests, get-store)
+
+pub stored_by_keep : (m : map.FinMap nat_cmp ℕ) (at q : ℕ) → map.contains_key (keep_from m at) q ≡ true → map.contains_key m q ≡ true
+stored_by_keep m at q h = is_some-kept (nat_le at q) (map.get m q) (sym (ap is_some (get-keep_from m at q)) ∙ h)
+
+is_some-slice_get : (xs : List ℕ) (k : ℕ) → k < length xs → is_some (slice_get xs k) ≡ true
+is_some-slice_get [] k h = absurd (omega arith)
+is_some-slice_get (x ∷ xs) zero h = refl
+is_some-slice_get (x ∷ xs) (suc k) h = is_some-slice_get xs k (omega arith)
+
+pub front_stored : (m : map.FinMap nat_cmp ℕ) (at size k : ℕ) → k < length (front m at size) → map.contains_key m (at + k) ≡ true
+front_stored m at size k h = ap is_some (front_has m at size k h) ∙ is_some-slice_get (front m at size) k h
+
+-- what a put leaves, where bytes are stored
+pub put_is : (a : Assembled) (offset : ℕ) (bytes : List ℕ) (m : map.FinMap nat_cmp ℕ) (r : NumberSet) → a.discarding ≡ false
+    → m ≡ store a.received a.stored offset bytes → r ≡ with_run a.received offset (length bytes) → record a { stored = m; received = r } ≡ put a offset bytes
+put_is a offset bytes m r on stored received = grind (arith, nat_tests)
+
+-- ---- What a read gives, and what it leaves.
+--     front_..      the bytes that are next, and those of two reads, one after the other
+--     take_nothing, take_done      a read of nothing, and one of all that is next
+
+pub append_nil : (xs : List ℕ) → xs ++ [] ≡ xs
+append_nil xs = grind (arith, common_steps)
+
+pub front_zero : (m : map.FinMap nat_cmp ℕ) (at : ℕ) → front m at 0 ≡ []
+unfolding front
+front_zero m at = refl
+
+pub front_none : (m : map.FinMap nat_cmp ℕ) (at size : ℕ) → map.get m at ≡ None → front m at size ≡ []
+unfolding front
+front_none m at size h = grind (arith, nat_tests)
+
+-- the first bytes of a map that has given bytes from an offset on
+pub front_of_bytes : (m : map.FinMap nat_cmp ℕ) (n at : ℕ) (bytes : List ℕ) → n ≤ length bytes
+    → ((k : ℕ) → k < n → map.get m (at + k) ≡ slice_get bytes k) → front m at n ≡ take n bytes
+unfolding front
+front_of_bytes m zero at bytes h is = refl
+front_of_bytes m (suc n) at [] h is = absurd (omega arith)
+front_of_bytes m (suc n) at (byte ∷ bytes) h is =
+    let z : at + 0 ≡ at = omega arith in
+    let here : map.get m at ≡ Some byte = ap (map.get m) (sym z) ∙ is 0 (omega arith) in
+    let later : front m (at + 1) n ≡ take n bytes = grind (arith, nat_tests, front_of_bytes m n (at + 1) bytes (omega arith) (λ k b. let e : at + 1 + k ≡ at + suc k = omega arith in ap (map.get m) e ∙ is (suc k) (omega arith))) in
+    ap (λ o. front_from o (front m (at + 1) n)) here ∙ ap (λ bs. byte ∷ bs) later
+
+front_step : (o : Option ℕ) (xs ys zs : List ℕ) (n : ℕ) → length (front_from o xs) ≡ suc n → (length xs ≡ n → zs ≡ xs ++ ys) → front_from o zs ≡ front_from o xs ++ ys
+front_step o xs ys zs n full is = grind (arith, nat_tests)
+
+pub front-more : (m : map.FinMap nat_cmp ℕ) (a at b : ℕ) → length (front m at a) ≡ a → front m at (a + b) ≡ front m at a ++ front m (at + a) b
+unfolding front
+front-more m zero at b full = ap (λ n. front m at n) (zero-add b) ∙ ap (λ i. front m i b) (sym (add-zero at))
+front-more m (suc a) at b full =
+    let e : suc a + b ≡ suc (a + b) = omega arith in
+    let f : at + 1 + a ≡ at + suc a = omega arith in
+    ap (front m at) e
+    ∙ front_step (map.get m at) (front m (at + 1) a) (front m (at + 1 + a) b) (front m (at + 1) (a + b)) a full (λ len. front-more m a (at + 1) b len)
+    ∙ ap (λ i. front_from (map.get m at) (front m (at + 1) a) ++ front m i b) f
+
+pub take_nothing : (a : Assembled) → keep_from a.stored a.read_count ≡ a.stored → a ≡ take_exactly a 0
+take_nothing a tidy = grind (arith, nat_tests)
+
+-- what is written into the rest of a slice
+pub rest_written : (into0 into f1 f2 new : List ℕ) (d k : ℕ) → into ≡ f1 ++ drop d into0 → length f1 ≡ d → d ≤ length into
+    → new ≡ f2 ++ drop k (take (length into - d) (drop d into))
+    → put_mid d (length into - d) into new ≡ f1 ++ f2 ++ drop (d + k) into0
+rest_written into0 into f1 f2 new d k out len h is = grind (arith, nat_tests, length-drop, take_at, drop_at, take_all, drop_all, drop-drop, append_nil, append_assoc)
+
+pub take_done : (a : Assembled) (d n : ℕ) → length (front_of a d) ≡ d → front_of a n ≡ front_of a d → take_exactly a d ≡ take_front a n
+take_done a d n full same = grind (arith, nat_tests)
+
+-- ---- How many offsets of a range didn't come.
+--     missing_parts      of two ranges, one behind the other
+--     missing_all, missing_none      where none came, and where all did
+--     missing_same       in two sets that agree there
+--     run_behind, least_of       what a search for the next gap tells
+
+pub missing_zero : (r : NumberSet) (from : ℕ) → missing_count r from 0 ≡ 0
+unfolding missing_count
+missing_zero r from = refl
+
+pub missing_small : (r : NumberSet) (from n : ℕ) → missing_count r from n ≤ n
+unfolding missing_count
+missing_small r from zero = omega arith
+missing_small r from (suc n) = grind (arith, nat_tests, missing_small r from n)
+
+pub missing_parts : (r : NumberSet) (from m n : ℕ) → missing_count r from (m + n) ≡ missing_count r from m + missing_count r (from + m) n
+unfolding missing_count
+missing_parts r from m zero = let e : m + 0 ≡ m = omega arith in ap (missing_count r from) e ∙ (let z : missing_count r from m ≡ missing_count r from m + 0 = omega arith in z)
+missing_parts r from m (suc n) =
+    let e : m + suc n ≡ suc (m + n) = omega arith in
+    let at : from + (m + n) ≡ from + m + n = omega arith in
+    grind (arith, nat_tests, missing_parts r from m n)
+
+pub missing_all : (r : NumberSet) (from n : ℕ) → MissesRange r from (from + n) → missing_count r from n ≡ n
+unfolding missing_count
+missing_all r from zero none = refl
+missing_all r from (suc n) none = grind (arith, nat_tests, missing_all r from n (λ q low high. none q low (omega arith)))
+
+pub missing_none : (r : NumberSet) (from n : ℕ) → ContainsRange r from (from + n) → missing_count r from n ≡ 0
+unfolding missing_count
+missing_none r from zero all = refl
+missing_none r from (suc n) all = grind (arith, nat_tests, missing_none r from n (λ q low high. all q low (omega arith)))
+
+pub missing_same : (r s : NumberSet) (from n : ℕ) → ((q : ℕ) → from ≤ q → q < from + n → set.contains r q ≡ set.contains s q) → missing_count r from n ≡ missing_count s from n
+unfolding missing_count
+missing_same r s from zero is = refl
+missing_same r s from (suc n) is = grind (arith, nat_tests, missing_same r s from n (λ q low high. is q low (omega arith)))
+
+-- a gap, and what came up to the next one
+pub run_behind : (r : NumberSet) (at end stop next after : ℕ) → at < stop → stop ≤ end → MissesRange r at stop → IsNextGap r stop end next after → IsNextRun r at end stop next
+run_behind r at end stop next after some within none g = grind (arith, nat_tests)
+
+-- the first offset that didn't come
+pub least_of : (r : NumberSet) (at end from to : ℕ) → IsNextGap r at end from to → from < end → IsLeastMissingFrom r at from
+least_of r at end from to g below = record { from = g.begins; missing = g.missing from (omega arith) (g.some below); all_before = g.came }
+
+-- past a gap, and what came behind it
+pub missing_gap : (r : NumberSet) (first at end stop next : ℕ) → first ≤ at → set.contains r at ≡ false → IsNextRun r at end stop next → missing_count r first (at - first) + (stop - at) ≡ missing_count r first (next - first)
+missing_gap r first at end stop next low none g =
+    let e : next - first ≡ (at - first) + ((stop - at) + (next - stop)) = omega arith in
+    let a : first + (at - first) ≡ at = omega arith in
+    let b : at + (stop - at) ≡ stop = omega arith in
+    let c : stop + (next - stop) ≡ next = omega arith in
+    let whole = ap (missing_count r first) e ∙ missing_parts r first (at - first) ((stop - at) + (next - stop)) in
+    let later = ap (λ k. missing_count r k ((stop - at) + (next - stop))) a ∙ missing_parts r at (stop - at) (next - stop) in
+    let gap = missing_all r at (stop - at) (rw b g.missing) in
+    let came = ap (λ k. missing_count r k (next - stop)) b ∙ missing_none r stop (next - stop) (rw c g.came) in
+    omega (arith, whole, later, gap, came)
+
+-- ---- What a ring answers, offset by offset, and that a put and a read do to it what they do to the map.
 --     get-ring, len-ring       the map that a ring stands for
 --     new_ring, ring_at_rest, ring_read, ring_put, ..       what holds of the fields still holds
 --     front_next, ring_advanced       what a read copies out and leaves
 --     IsPut, put_stored       what is kept before a put and after it, and what it stores
 --     same_bytes, same_ring       only the bytes at offsets that came show
-use Rattle.std.specs.Prelude.{◌≡◌, ℕ, ◌+◌, ◌-◌, ◌/◌, ◌^◌, ◌<◌, ◌≤◌, zero, suc, Bool, true, false, not, cond, if◌then◌else◌, ◌&&◌, ◌||◌, max, min, nat_eq, nat_le, nat_lt, List, [], ◌++◌, length, take, drop, slice_get, slice_index, Option, None, Some, is_some, Result, Ok, Err, OnOk, OnErr, refl}
-use Rattle.std.proofs.Common.{sym, ◌∙◌, ap, arith, inl, inr}
-use Rattle.std.specs.Int.{IsPowerOfTwo}
-use Rattle.std.specs.Ordering.{nat_cmp}
-use Rattle.std.specs.Cmp.{nat_cmp_total}
-use Rattle.std.specs.FinMap as map
-use Rattle.std.specs.FinMap.{nat_cmp-IsAntisymmetric, same_map}
-use Rattle.std.specs.FinSet as set
-use Rattle.std.proofs.lemmas.Bool.{both_ways, cases_lt, cases_order, cases_Bool, and_parts, and_right, or_cases, or_left, or_right, ltb-true, leb-true, false_from_ne_true}
-use Rattle.std.proofs.lemmas.Bool.Decides.{nat_tests}
-use Rattle.std.proofs.lemmas.List.{drop_all, length-take, take_all}
-use Rattle.std.proofs.lemmas.Option.{slice_get-get_or}
-use Rattle.qs_ranges.specs.Numbers.{NumberSet, MAX_VARINT, ContainsRange, IsLeastMissingFrom, contains-numbers, covers, end_of, is_within, numbers}
-use Rattle.qs_ranges.proofs.Algebra.{with_range-covered}
-use Rattle.qs_ranges.proofs.Sets.{covers-is, end_of-with_range}
-use Rattle.qs_recv.specs.Assembled.{Assembled, front, keep_from, put, store, take_front}
-use Rattle.qs_recv.specs.Bytes.{byte_at}
-use Rattle.qs_recv.specs.Ring.{IsRing, IsSizeFor, missing_count, ring_bytes, stored_in_ring}
-use Rattle.qs_recv.proofs.AssembledLaws.{is_in_run, with_run, contains-with_run, get-insert_nat, get-keep_from, get-store, put_is}
-use Rattle.qs_recv.proofs.ReadLaws.{append_nil, front_none, front_of_bytes, front-more, take_done, take_nothing}
-use Rattle.qs_recv.proofs.RingCount.{missing_all, missing_none, missing_parts, missing_same, missing_small}
-use Rattle.qs_recv.specs.Lane.{MAX_WINDOW}
 
 -- the map
 
 ring_one : (b : Bool) (m : map.FinMap nat_cmp ℕ) (k v q : ℕ) → map.get (cond b (map.insert m k v) m) q ≡ cond (b && nat_eq q k) (Some v) (map.get m q)
-ring_one true m k v q = get-insert_nat m k v q
-ring_one false m k v q = refl
+ring_one b m k v q = grind (arith, nat_tests, get-insert_nat)
 
 pub get-ring : (r : NumberSet) (f : ℕ → ℕ) (w from n q : ℕ)
     → map.get (ring_bytes r f from n) q ≡ cond (is_in_run q from n && set.contains r q) (Some (f q)) None
 unfolding ring_bytes
 get-ring r f w from zero q = map.get-empty nat_cmp q ∙ sym (ap (λ b. cond (b && set.contains r q) (Some (f q)) None) (let e : is_in_run q from 0 ≡ false = grind (arith, nat_tests) in e))
-get-ring r f w from (suc n) q =
-    let rest = get-ring r f w from n q in
-    let one = ring_one (set.contains r (from + n)) (ring_bytes r f from n) (from + n) (f (from + n)) q in
-    elim (cases_order q (from + n)) [
-      | inl same ↦
-          let c : set.contains r q ≡ set.contains r (from + n) = ap (set.contains r) same in
-          let v : f q ≡ f (from + n) = ap (λ k. f k) same in
-          grind (arith, nat_tests)
-      | inr apart ↦ grind (arith, nat_tests)
-    ]
+get-ring r f w from (suc n) q = grind (arith, nat_tests, get-ring r f w from n q, ring_one)
 
 -- each offset is stored or missing
 pub len-ring : (r : NumberSet) (f : ℕ → ℕ) (w from n : ℕ) → map.len (ring_bytes r f from n) + missing_count r from n ≡ n
@@ -54,8 +229,7 @@ unfolding ring_bytes missing_count
 len-ring r f w from zero = let e = map.len-empty nat_cmp ℕ in omega (arith, e)
 len-ring r f w from (suc n) =
     let out : is_in_run (from + n) from n ≡ false = grind (arith, nat_tests) in
-    let none : map.contains_key (ring_bytes r f from n) (from + n) ≡ false =
-    ap is_some (get-ring r f w from n (from + n) ∙ ap (λ b. cond (b && set.contains r (from + n)) (Some (f (from + n))) None) out) in
+    let none : map.contains_key (ring_bytes r f from n) (from + n) ≡ false = grind (arith, nat_tests, get-ring) in
     let more : map.len (map.insert (ring_bytes r f from n) (from + n) (f (from + n))) ≡ map.len (ring_bytes r f from n) + 1 =
     map.len-insert nat_cmp_total (ring_bytes r f from n) (from + n) (f (from + n)) ∙ ap (λ b. cond b (map.len (ring_bytes r f from n)) (map.len (ring_bytes r f from n) + 1)) none in
     one (set.contains r (from + n)) (ring_bytes r f from n) (map.insert (ring_bytes r f from n) (from + n) (f (from + n))) (missing_count r from n) more (len-ring r f w from n)
@@ -129,17 +303,11 @@ ring_wider r f w v from le within =
     same_map nat_cmp_total nat_cmp-IsAntisymmetric _ _ (λ q. get-ring r f v from v q ∙ by_came q (set.contains r q) refl ∙ sym (get-ring r f w from w q))
   where
     by_came : (q : ℕ) (came : Bool) → set.contains r q ≡ came → cond (is_in_run q from v && set.contains r q) (Some (f q)) None ≡ cond (is_in_run q from w && set.contains r q) (Some (f q)) None
-    by_came q true is =
-        let below = within q is in
-        let same : is_in_run q from v ≡ is_in_run q from w = grind (arith, nat_tests) in
-        ap (λ b. cond (b && set.contains r q) (Some (f q)) None) same
-    by_came q false is =
-        ap (λ b. cond b (Some (f q)) None) (and_right (is_in_run q from v) (set.contains r q) is)
-        ∙ sym (ap (λ b. cond b (Some (f q)) None) (and_right (is_in_run q from w) (set.contains r q) is))
+    by_came q true is = grind (arith, nat_tests)
+    by_came q false is = grind (arith, nat_tests)
 
 pub view_wider : (r : NumberSet) (f : ℕ → ℕ) (w v from stored : ℕ) (off : Bool) → w ≤ v → IsRing f r w from stored off → stored_in_ring r f v from off ≡ stored_in_ring r f w from off
-view_wider r f w v from stored true le h = refl
-view_wider r f w v from stored false le h = ring_wider r f w v from le (h.came_within refl)
+view_wider r f w v from stored off le h = grind (arith, nat_tests, ring_wider)
 
 pub widened_ring : (r : NumberSet) (f : ℕ → ℕ) (w v from stored : ℕ) (off : Bool) → w ≤ v → v ≤ MAX_WINDOW → IsRing f r w from stored off → IsRing f r v from stored off
 widened_ring r f w v from stored off le small h =
@@ -155,11 +323,7 @@ widened_ring r f w v from stored off le small h =
 
 -- what is next lies within the window
 pub next_within : (r : NumberSet) (f : ℕ → ℕ) (w from n stored : ℕ) → IsRing f r w from stored false → ContainsRange r from (from + n) → n ≤ w
-next_within r f w from n stored h came =
-    elim (cases_lt w n) [
-      | inl more ↦ (let high = h.came_within refl (from + w) (came (from + w) (omega arith) (omega arith)) in absurd (omega (arith, high)))
-      | inr within ↦ within
-    ]
+next_within r f w from n stored h came = grind (arith, nat_tests)
 
 -- and is stored
 pub next_stored : (r : NumberSet) (f : ℕ → ℕ) (w from n stored : ℕ) → IsRing f r w from stored false → ContainsRange r from (from + n) → n ≤ stored
@@ -176,7 +340,6 @@ next_stored r f w from n stored h came =
 pub ring_read : (r : NumberSet) (f : ℕ → ℕ) (w from n stored : ℕ) → IsRing f r w from stored false → ContainsRange r from (from + n) → from + n ≤ 2 ^ 62
     → IsRing f r w (from + n) (stored - n) false
 ring_read r f w from n stored h came small =
-    let within = next_within r f w from n stored h came in
     record {
       small_window = h.small_window;
       small_count = small;
@@ -196,10 +359,7 @@ ring_read r f w from n stored h came small =
 
 ring_has : (r : NumberSet) (f : ℕ → ℕ) (w from k : ℕ) → k < w → set.contains r (from + k) ≡ true
     → map.get (ring_bytes r f from w) (from + k) ≡ Some (f (from + k))
-ring_has r f w from k h came =
-    get-ring r f w from w (from + k)
-    ∙ ap (λ t. cond (t && set.contains r (from + k)) (Some (f (from + k))) None) (let e : is_in_run (from + k) from w ≡ true = grind (arith, nat_tests) in e)
-    ∙ ap (λ t. cond t (Some (f (from + k))) None) came
+ring_has r f w from k h came = grind (arith, nat_tests, get-ring)
 
 ring_lacks : (r : NumberSet) (f : ℕ → ℕ) (w from q : ℕ) → set.contains r q ≡ false → map.get (ring_bytes r f from w) q ≡ None
 ring_lacks r f w from q new = get-ring r f w from w q ∙ ap (λ t. cond t (Some (f q)) None) (and_right (is_in_run q from w) (set.contains r q) new)
@@ -269,9 +429,7 @@ empty_kept from =
 
 pub nothing_taken : (r : NumberSet) (from w room : ℕ) (off : Bool)
     → (let a : Assembled = record { stored = map.empty; received = r; read_count = from; widest = w; discarding = off } in a ≡ take_front a room)
-nothing_taken r from w room off =
-    let a : Assembled = record { stored = map.empty; received = r; read_count = from; widest = w; discarding = off } in
-    take_nothing a (empty_kept from) ∙ take_done a 0 room (ap length (empty_front from 0)) (empty_front from room ∙ sym (empty_front from 0))
+nothing_taken r from w room off = grind (arith, nat_tests, empty_kept, empty_front)
 
 -- A put of known bytes, or of none
 
@@ -292,35 +450,19 @@ store_known r m offset bytes all =
     run_high q lo n run = grind (arith, nat_tests)
 
 pub put_known : (a : Assembled) (offset : ℕ) (bytes : List ℕ) → ContainsRange a.received offset (offset + length bytes) → a ≡ put a offset bytes
-put_known a offset bytes all =
-    ap (λ r. record a { received = r }) (sym (with_range-covered a.received offset (offset + length bytes) all))
-    ∙ ap (λ m. record a { stored = m; received = with_run a.received offset (length bytes) }) (either a.discarding)
-  where
-    either : (off : Bool) → a.stored ≡ (if off then a.stored else store a.received a.stored offset bytes)
-    either true = refl
-    either false = sym (store_known a.received a.stored offset bytes all)
+put_known a offset bytes all = grind (arith, nat_tests, with_range-covered, store_known)
 
 -- where nothing is missing before an offset that is read or came
 pub all_known : (r : NumberSet) (f : ℕ → ℕ) (w from stored offset end first : ℕ) (off : Bool) → IsRing f r w from stored off → ContainsRange r (max offset from) first → end ≤ first → ContainsRange r offset end
-all_known r f w from stored offset end first off h came past q low high =
-    elim (cases_lt q from) [
-      | inl read ↦ h.read_came q read
-      | inr left ↦ came q (omega arith) (omega arith)
-    ]
+all_known r f w from stored offset end first off h came past q low high = grind (arith, nat_tests)
 
 -- A put where one byte is new
 
 pub gap_news : (r : NumberSet) (offset from end first : ℕ) → IsLeastMissingFrom r (max offset from) first → first < end → covers r offset end ≡ false
-gap_news r offset from end first least below =
-    let low = least.from in
-    false_from_ne_true (covers r offset end) (λ is. both_ways _ least.missing (covers-is r offset end is first (omega (arith, low)) below))
+gap_news r offset from end first least below = grind (arith, nat_tests, covers-is)
 
 byte_some : (offset : ℕ) (bytes : List ℕ) (q : ℕ) → is_in_run q offset (length bytes) ≡ true → byte_at offset bytes q ≡ Some (slice_index bytes (q - offset))
-byte_some offset bytes q run =
-    let p = and_parts (nat_le offset q) (nat_lt q (offset + length bytes)) run in
-    let low = leb-true offset q p.0 in
-    let high = ltb-true q (offset + length bytes) p.1 in
-    ap (λ b. cond b (slice_get bytes (q - offset)) None) p.0 ∙ slice_get-get_or bytes (q - offset) 0 (omega (arith, low, high))
+byte_some offset bytes q run = grind (arith, nat_tests, slice_get-get_or)
 
 -- what is kept after a put, and before it
 pub record IsPut (r : NumberSet) (w from stored offset first : ℕ) (bytes : List ℕ) (f g : ℕ → ℕ) : Type 0 where
@@ -333,12 +475,7 @@ pub record IsPut (r : NumberSet) (w from stored offset first : ℕ) (bytes : Lis
 
 place_new : (r : NumberSet) (w from stored offset first q : ℕ) (bytes : List ℕ) (f g : ℕ → ℕ) → IsPut r w from stored offset first bytes f g → from ≤ q → set.contains r q ≡ false
     → is_in_run q offset (length bytes) ≡ true → g q ≡ slice_index bytes (q - offset)
-place_new r w from stored offset first q bytes f g p low none run =
-    let parts = and_parts (nat_le offset q) (nat_lt q (offset + length bytes)) run in
-    let at : offset ≤ q = leb-true offset q parts.0 in
-    let below : q < offset + length bytes = ltb-true q (offset + length bytes) parts.1 in
-    let past : first ≤ q = elim (cases_lt q first) [ inl before ↦ absurd (both_ways _ none (p.least.all_before q (omega arith) before)) | inr from ↦ from ] in
-    p.new q past below none
+place_new r w from stored offset first q bytes f g p low none run = grind (arith, nat_tests)
 
 -- bytes that are the same at the offsets that came
 pub same_bytes : (r : NumberSet) (f g : ℕ → ℕ) (w from : ℕ) → ((q : ℕ) → from ≤ q → set.contains r q ≡ true → g q ≡ f q) → ring_bytes r g from w ≡ ring_bytes r f from w
@@ -355,14 +492,7 @@ same_bytes r f g w from same =
     ])
 
 pub same_ring : (r : NumberSet) (f g : ℕ → ℕ) (w from stored : ℕ) → IsRing f r w from stored false → ((q : ℕ) → from ≤ q → set.contains r q ≡ true → g q ≡ f q) → IsRing g r w from stored false
-same_ring r f g w from stored h same =
-    record {
-      small_window = h.small_window;
-      small_count = h.small_count;
-      read_came = h.read_came;
-      came_within = h.came_within;
-      counted = h.counted ∙ ap map.len (sym (same_bytes r f g w from same));
-    }
+same_ring r f g w from stored h same = grind (arith, nat_tests, same_bytes)
 
 pub put_stored : (r : NumberSet) (w from stored offset first : ℕ) (bytes : List ℕ) (f g : ℕ → ℕ) → IsPut r w from stored offset first bytes f g
     → ring_bytes (with_run r offset (length bytes)) g from w ≡ store r (ring_bytes r f from w) offset bytes
@@ -408,7 +538,6 @@ put_counted r w from stored offset first bytes f g p =
     let e : w ≡ (first - from) + ((end - first) + (from + w - end)) = omega (arith, least, some, fits) in
     let a : from + (first - from) ≡ first = omega (arith, least) in
     let b : first + (end - first) ≡ end = omega (arith, some) in
-    let c : end + (from + w - end) ≡ from + w = omega (arith, fits) in
     let old = ap (missing_count r from) e ∙ missing_parts r from (first - from) ((end - first) + (from + w - end)) in
     let old_later = ap (λ k. missing_count r k ((end - first) + (from + w - end))) a ∙ missing_parts r first (end - first) (from + w - end) in
     let old_last = ap (λ k. missing_count r k (from + w - end)) b in
@@ -440,10 +569,7 @@ ring_put r w from stored offset first count bytes f g p is =
       small_window = p.was.small_window;
       small_count = p.was.small_count;
       read_came = λ q below. contains-with_run r offset (length bytes) q ∙ or_left (set.contains r q) (is_in_run q offset (length bytes)) (p.was.read_came q below);
-      came_within = λ on q came. elim (or_cases (set.contains r q) (is_in_run q offset (length bytes)) (sym (contains-with_run r offset (length bytes) q) ∙ came)) [
-        | inl old ↦ p.was.came_within on q old
-        | inr run ↦ let high : q < offset + length bytes = ltb-true q (offset + length bytes) (and_parts (nat_le offset q) (nat_lt q (offset + length bytes)) run).1 in omega (arith, high, fits)
-      ];
+      came_within = grind (arith, nat_tests, contains-with_run, ltb-true);
       counted =
           let before = len-ring r f w from w in
           let after = len-ring s g w from w in
@@ -467,29 +593,17 @@ put_fits r w from stored offset first count bytes f g p is =
 pub put_ring : (r : NumberSet) (w from stored offset first : ℕ) (bytes : List ℕ) (f g : ℕ → ℕ) → IsPut r w from stored offset first bytes f g
     → (let a : Assembled = record { stored = ring_bytes r f from w; received = r; read_count = from; widest = w; discarding = false } in
     record a { stored = ring_bytes (with_run r offset (length bytes)) g from w; received = with_run r offset (length bytes) } ≡ put a offset bytes)
-put_ring r w from stored offset first bytes f g p =
-    let a : Assembled = record { stored = ring_bytes r f from w; received = r; read_count = from; widest = w; discarding = false } in
-    put_is a offset bytes _ _ refl (put_stored r w from stored offset first bytes f g p) refl
+put_ring r w from stored offset first bytes f g p = grind (arith, nat_tests, put_stored)
 
 -- a vector whose whole slice was written
 pub vec_written : (n : ℕ) (old new : List ℕ) → length new ≡ length old → length old ≡ n → take n (new ++ drop (length new) old) ≡ new
-vec_written n old new a b =
-    let e : drop (length new) old ≡ [] = drop_all (length new) old (omega arith) in
-    ap (λ xs. take n (new ++ xs)) e ∙ ap (take n) (append_nil new) ∙ take_all n new (omega arith)
+vec_written n old new a b = grind (arith, nat_tests, drop_all, append_nil, take_all)
 
 -- Where bytes are thrown away, offsets are noted
 
 pub ring_noted : {T E : Type 0} (res : Result T E) (f : ℕ → ℕ) (old new : NumberSet) (w from stored offset n : ℕ)
     → OnOk res (new ≡ with_run old offset n) → OnErr res (new ≡ old) → IsRing f old w from stored true → IsRing f new w from stored true
-ring_noted (Ok x) f old new w from stored offset n ok err h =
-    record {
-      small_window = h.small_window;
-      small_count = h.small_count;
-      read_came = λ q below. ap (λ s. set.contains s q) ok ∙ contains-with_run old offset n q ∙ or_left (set.contains old q) (is_in_run q offset n) (h.read_came q below);
-      came_within = λ on. absurd (both_ways true on refl);
-      counted = h.counted;
-    }
-ring_noted (Err e) f old new w from stored offset n ok err h = rw err h
+ring_noted res f old new w from stored offset n ok err h = grind (arith, nat_tests, contains-with_run, is_in_run)
 
 -- How large it is
 
@@ -512,3 +626,70 @@ size_fits span window power least size two reaches near least_is size_is fits =
 -- the end of what came, with a run of some more
 pub end_more : (r : NumberSet) (offset n end last : ℕ) → end ≡ end_of r → 0 < n → last ≡ max end (offset + n) → last ≡ end_of (with_run r offset n)
 end_more r offset n end last is some last_is = let ends = end_of-with_range r offset (offset + n) (omega arith) in omega (arith, is, last_is, ends)
+
+-- ---- Bytes that are held against those that are stored.
+--     byte_in, byte_there      a byte of a run, by its place
+--     same_true, same_at      bytes are the same where each offset that has a byte in both has one
+--     same_none, same_by      so they are where nothing is stored, and alike where two maps have alike
+--     part      the bytes of a run from an offset on and below another
+
+-- a byte of a run, and its place
+
+pub byte_there : (at : ℕ) (bytes : List ℕ) (q : ℕ) → at ≤ q → q < at + length bytes → byte_at at bytes q ≡ Some (slice_index bytes (q - at))
+byte_there at bytes q low high = grind (arith, nat_tests, slice_get-get_or)
+
+pub byte_in : (at : ℕ) (bytes : List ℕ) (q c : ℕ) → byte_at at bytes q ≡ Some c → (at ≤ q) × (q < at + length bytes) × (slice_index bytes (q - at) ≡ c)
+byte_in at bytes q c is = grind (arith, nat_tests, slice_get_within, get_or_from_slice_get)
+
+-- The same at each offset
+
+agrees_from : (o : Option ℕ) (c : ℕ) → ((b : ℕ) → o ≡ Some b → b ≡ c) → agrees o c ≡ true
+agrees_from o c is = grind (arith, nat_tests)
+
+agrees_is : (o : Option ℕ) (b c : ℕ) → o ≡ Some b → agrees o c ≡ true → b ≡ c
+agrees_is o b c e h = eqb-true b c (sym (ap (λ x. agrees x c) e) ∙ h)
+
+pub same_true : (m : map.FinMap nat_cmp ℕ) (at : ℕ) (bytes : List ℕ)
+    → ((q b c : ℕ) → map.get m q ≡ Some b → byte_at at bytes q ≡ Some c → b ≡ c) → same m at bytes ≡ true
+unfolding same
+same_true m at [] is = refl
+same_true m at (byte ∷ bytes) is =
+    and_from _ _ (agrees_from (map.get m at) byte (λ b e. is at b byte e (byte_at_front at at byte bytes refl)))
+    (same_true m (at + 1) bytes (λ q b c e f.
+    let low = (byte_in (at + 1) bytes q c f).0 in
+    is q b c e (byte_at_back at q byte bytes (omega (arith, low)) ∙ f)))
+
+pub same_at : (m : map.FinMap nat_cmp ℕ) (at : ℕ) (bytes : List ℕ) (q b c : ℕ) → same m at bytes ≡ true → map.get m q ≡ Some b → byte_at at bytes q ≡ Some c → b ≡ c
+unfolding same
+same_at m at [] q b c h e f = let r = byte_in at [] q c f in absurd (omega (arith, r.0, r.1))
+same_at m at (byte ∷ bytes) q b c h e f =
+    let parts = and_parts (agrees (map.get m at) byte) (same m (at + 1) bytes) h in
+    let low = (byte_in at (byte ∷ bytes) q c f).0 in
+    elim (cases_lt at q) [
+      | inl past ↦ same_at m (at + 1) bytes q b c parts.1 e (sym (byte_at_back at q byte bytes past) ∙ f)
+      | inr here ↦
+          let is : q ≡ at = omega (arith, low) in
+          let one : c ≡ byte = sym (byte_in at (byte ∷ bytes) q c f).2 ∙ (byte_in at (byte ∷ bytes) q byte (byte_at_front at q byte bytes is)).2 in
+          agrees_is (map.get m at) b byte (ap (map.get m) (sym is) ∙ e) parts.0 ∙ sym one
+    ]
+
+pub same_none : (m : map.FinMap nat_cmp ℕ) (at : ℕ) (bytes : List ℕ) → ((q : ℕ) → at ≤ q → q < at + length bytes → map.get m q ≡ None) → same m at bytes ≡ true
+same_none m at bytes none = grind (arith, nat_tests, same_true, byte_in)
+
+pub same_empty : (m : map.FinMap nat_cmp ℕ) (at : ℕ) (bytes : List ℕ) → m ≡ map.empty → same m at bytes ≡ true
+same_empty m at bytes empty = same_none m at bytes (λ q low high. ap (λ n. map.get n q) empty ∙ map.get-empty nat_cmp q)
+
+pub same_by : (m n : map.FinMap nat_cmp ℕ) (at : ℕ) (bytes : List ℕ) → ((q : ℕ) → at ≤ q → q < at + length bytes → map.get m q ≡ map.get n q) → same m at bytes ≡ same n at bytes
+unfolding same
+same_by m n at [] is = refl
+same_by m n at (byte ∷ bytes) is = grind (arith, nat_tests, same_by m n (at + 1) bytes (λ q low high. is q (omega arith) (omega arith)))
+
+-- the part of a run from an offset on and below another
+abbrev pub part : ℕ → List ℕ → ℕ → ℕ → List ℕ
+part at xs from to = take (to - at - (from - at)) (drop (from - at) xs)
+
+pub length_part : (at : ℕ) (xs : List ℕ) (from to : ℕ) → at ≤ from → from ≤ to → to ≤ at + length xs → length (part at xs from to) ≡ to - from
+length_part at xs from to low some high = simp (length-take, length-drop) (omega arith)
+
+pub part_at : (at : ℕ) (xs : List ℕ) (from to k : ℕ) → at ≤ from → k < to - from → slice_index (part at xs from to) k ≡ slice_index xs (from + k - at)
+part_at at xs from to k low below = grind (arith, nat_tests, get_or-take, get_or-drop)

@@ -1,4 +1,155 @@
--- The places of a ring of which only the written bytes are kept.
+-- Where offsets stand in a ring, and what its places have after bytes were written.
+--     places       how the places of two offsets lie to each other
+--     written_..   bytes written in one piece, and in two
+--     place_past   an offset less than a turn past another
+--     filled_..    bytes written into the gaps one after another
+--     place_by_bits      a place where the size is a power of two
+use lib.Count.{ones_step}
+use Rattle.std.specs.FinSet as set
+use Rattle.std.proofs.Common.{◌≡◌, ℕ, ◌+◌, ◌-◌, ◌*◌, ◌/◌, ◌%◌, ◌<◌, ◌≤◌, true, false, if◌then◌else◌, List, length, take, drop, refl, ◌⊎◌, ◌∙◌, ap, arith, inl, inr, length-drop, Bool, min, sym, ◌==◌, max, subst}
+use Rattle.std.specs.Prelude.{◌^◌, zero, suc, slice_index, ◌++◌, replicate, slice_index_or}
+use Rattle.std.proofs.Math.Nat.{two-pow-succ}
+use Rattle.std.specs.Int.{IsPowerOfTwo, is_power_of_two}
+use Rattle.std.specs.Int.RustNames.{bit_and, count_ones}
+use Rattle.std.proofs.lemmas.Nat.{and_mask, mod_below, ones_le_self, zero_from_ones}
+use Rattle.std.proofs.lemmas.List.{get_or-take, get_or-drop, length-take, get_or_append_left, get_or-append_right, get_or-replicate, get_or_past, length-append, length-replicate, take-append-le}
+use Rattle.std.proofs.lemmas.Bool.{cases_lt, both_ways}
+use Rattle.std.proofs.lemmas.Bool.Decides.{nat_tests}
+use Rattle.qs_ranges.specs.Numbers.{NumberSet, is_within, ContainsRange}
+use Rattle.qs_recv.specs.Ring.{IsFilled, IsNextRun, IsWritten, AreAt, IsMoved, around, padded, places_of, AreFilled, AreWritten, CameWritten, IsApart, IsThere, RingBytes, StayWritten, StayWrittenTo}
+use Rattle.std.proofs.lemmas.Grind.{common_steps, same_number_lists}
+use Rattle.std.specs.Bool.{Decides}
+use Rattle.std.proofs.Math.Seq.{take-append-add}
+use Rattle.qs_recv.proofs.RingLaws.{contains-with_run, with_run}
+use Rattle.qs_recv.specs.Pages.{Pages, has_page}
+
+-- the quotients of two offsets that lie less than a turn apart
+pub next_turn : (w a b : ℕ) → 0 < w → b ≤ a + w → a / w < b / w → w * (b / w) ≡ w * (a / w) + w
+next_turn w a b pos near lt = grind (arith, nat_tests)
+
+-- the places of two offsets that lie a turn apart at most
+pub places : (at q w : ℕ) → 0 < w → at ≤ q + w → q < at + w
+    → (q % w + at ≡ at % w + q) ⊎ ((q % w + at + w ≡ at % w + q) ⊎ (q % w + at ≡ at % w + q + w))
+places at q w pos low high = grind (arith, nat_tests, next_turn)
+
+pub written_once : (at : ℕ) (bytes old new : List ℕ) → 0 < length old → at % length old + length bytes ≤ length old
+    → ((k : ℕ) → slice_index new k ≡ (if is_within (at % length old) (at % length old + length bytes) k then slice_index bytes (k - at % length old) else slice_index old k))
+    → IsWritten at bytes old new
+written_once at bytes old new pos fits is q low high =
+    let k = q % length old in
+    let p = at % length old in
+    let below : k < length old = mod_below q (length old) pos in
+    is k ∙ one_piece k p (length old) (length bytes) below fits low high (places at q (length old) pos (omega arith) high)
+  where
+    one_piece : (k p w n : ℕ) → k < w → p + n ≤ w → at + n ≤ q + w → q < at + w → (k + at ≡ p + q) ⊎ ((k + at + w ≡ p + q) ⊎ (k + at ≡ p + q + w))
+        → (if is_within p (p + n) k then slice_index bytes (k - p) else slice_index old k) ≡ (if is_within at (at + n) q then slice_index bytes (q - at) else slice_index old k)
+    one_piece k p w n below fits low high (inl here) = grind (arith, nat_tests)
+    one_piece k p w n below fits low high (inr (inl later)) = grind (arith, nat_tests)
+    one_piece k p w n below fits low high (inr (inr before)) = grind (arith, nat_tests)
+
+pub written_twice : (at room : ℕ) (bytes front back old mid new : List ℕ) → 0 < length old → length bytes ≤ length old → room ≡ length old - at % length old → room < length bytes
+    → front ≡ take room bytes → back ≡ drop room bytes → length front ≡ room → length back + room ≡ length bytes
+    → ((k : ℕ) → slice_index mid k ≡ (if is_within (at % length old) (at % length old + length front) k then slice_index front (k - at % length old) else slice_index old k))
+    → ((k : ℕ) → slice_index new k ≡ (if is_within 0 (0 + length back) k then slice_index back (k - 0) else slice_index mid k))
+    → IsWritten at bytes old new
+written_twice at room bytes front back old mid new pos fits rest more front_is back_is front_len back_len mid_is new_is q low high =
+    let k = q % length old in
+    let p = at % length old in
+    let below : k < length old = mod_below q (length old) pos in
+    let start : p < length old = mod_below at (length old) pos in
+    new_is k ∙ ap (λ v. if is_within 0 (0 + length back) k then slice_index back (k - 0) else v) (mid_is k)
+    ∙ two_pieces k p (length old) (length bytes) (length front) (length back) below start fits rest more front_len back_len low high (places at q (length old) pos (omega arith) high)
+  where
+    first_part : (i : ℕ) → i < room → slice_index front i ≡ slice_index bytes i
+    first_part i h = ap (λ xs. slice_index xs i) front_is ∙ get_or-take room bytes i 0 h
+
+    last_part : (i : ℕ) → slice_index back i ≡ slice_index bytes (room + i)
+    last_part i = ap (λ xs. slice_index xs i) back_is ∙ get_or-drop room bytes i 0
+
+    two_pieces : (k p w n f b : ℕ) → k < w → p < w → n ≤ w → room ≡ w - p → room < n → f ≡ room → b + room ≡ n → at + n ≤ q + w → q < at + w → (k + at ≡ p + q) ⊎ ((k + at + w ≡ p + q) ⊎ (k + at ≡ p + q + w))
+        → (if is_within 0 (0 + b) k then slice_index back (k - 0) else (if is_within p (p + f) k then slice_index front (k - p) else slice_index old k))
+        ≡ (if is_within at (at + n) q then slice_index bytes (q - at) else slice_index old k)
+    two_pieces k p w n f b below start fits rest more f_is b_is low high (inl here) =
+        let a : is_within 0 (0 + b) k ≡ false = grind (arith, nat_tests) in
+        elim (cases_lt q at) [
+          | inl under ↦
+              let x : is_within p (p + f) k ≡ false = grind (arith, nat_tests) in
+              let y : is_within at (at + n) q ≡ false = grind (arith, nat_tests) in
+              rw (a, x, y) refl
+          | inr from ↦
+              let x : is_within p (p + f) k ≡ true = grind (arith, nat_tests) in
+              let y : is_within at (at + n) q ≡ true = grind (arith, nat_tests) in
+              let same : k - p ≡ q - at = omega arith in
+              rw (a, x, y) (first_part (k - p) (omega arith) ∙ ap (slice_index bytes) same)
+        ]
+    two_pieces k p w n f b below start fits rest more f_is b_is low high (inr (inl later)) =
+        let x : is_within p (p + f) k ≡ false = grind (arith, nat_tests) in
+        elim (cases_lt k b) [
+          | inl within ↦
+              let a : is_within 0 (0 + b) k ≡ true = grind (arith, nat_tests) in
+              let y : is_within at (at + n) q ≡ true = grind (arith, nat_tests) in
+              let same : room + k ≡ q - at = omega arith in
+              let whole : k - 0 ≡ k = omega arith in
+              rw (a, y) (ap (slice_index back) whole ∙ last_part k ∙ ap (slice_index bytes) same)
+          | inr past ↦
+              let a : is_within 0 (0 + b) k ≡ false = grind (arith, nat_tests) in
+              let y : is_within at (at + n) q ≡ false = grind (arith, nat_tests) in
+              rw (a, x, y) refl
+        ]
+    two_pieces k p w n f b below start fits rest more f_is b_is low high (inr (inr before)) = absurd (omega arith)
+
+-- Less than a turn past another
+
+-- the place of an offset less than a turn past another
+pub place_past : (at i w : ℕ) → 0 < w → i < w → ((at + i) % w ≡ at % w + i) ⊎ ((at + i) % w + w ≡ at % w + i)
+place_past at i w pos h =
+    elim (places at (at + i) w pos (omega arith) (omega arith)) [
+      | inl here ↦ inl (omega arith)
+      | inr apart ↦ elim apart [
+        | inl later ↦ inr (omega arith)
+        | inr before ↦ (let b = mod_below (at + i) w pos in absurd (omega (arith, b)))
+      ]
+    ]
+
+-- Gap after gap
+
+pub filled_none : (r : NumberSet) (first offset : ℕ) (bytes ring : List ℕ) → IsFilled r first first offset bytes ring ring
+filled_none r first offset bytes ring q low high =
+    let none : is_within first first q ≡ false = grind (arith, nat_tests) in
+    rw none refl
+
+pub filled_gap : (r : NumberSet) (first at end stop next offset : ℕ) (bytes old mid new : List ℕ) → offset ≤ first → first ≤ at → end ≤ offset + length bytes → at < stop → IsNextRun r at end stop next
+    → length mid ≡ length old → IsFilled r first at offset bytes old mid → IsWritten at (take (stop - offset - (at - offset)) (drop (at - offset) bytes)) mid new
+    → IsFilled r first next offset bytes old new
+filled_gap r first at end stop next offset bytes old mid new begins low_at fits some g len filled written q low high = grind (arith, nat_tests, length-take, length-drop, get_or-take, get_or-drop)
+
+-- a number with one bit is a power of two
+one_bit : (d n : ℕ) → n ≤ d → count_ones n ≡ 1 → IsPowerOfTwo n
+one_bit zero n h e = let none : count_ones n ≤ n = ones_le_self n in absurd (omega (arith, none))
+one_bit (suc d) n h e =
+    let s = ones_step n in
+    elim (cases_lt 0 (n % 2)) [
+      | inl odd ↦ let half : n / 2 ≡ 0 = zero_from_ones (n / 2) (omega (arith, s)) in (0, omega (arith, half))
+      | inr even ↦
+          let half = one_bit d (n / 2) (omega arith) (omega (arith, s)) in
+          let power = half.1 in
+          let doubled = two-pow-succ half.0 in
+          (suc half.0, omega (arith, power, doubled))
+    ]
+
+-- where a size is a power of two, an offset's low bits are its place
+pub place_by_bits : (at size : ℕ) → is_power_of_two size ≡ true → bit_and at (size - 1) ≡ at % size
+place_by_bits at size one =
+    let power = one_bit size size (omega arith) (eq_of one) in
+    powers power.0 size power.1
+  where
+    powers : (k n : ℕ) → n ≡ 2 ^ k → bit_and at (n - 1) ≡ at % n
+    powers k n is = rw is (and_mask at k)
+
+    eq_of : is_power_of_two size ≡ true → count_ones size ≡ 1
+    eq_of e = grind (arith, nat_tests)
+
+-- ---- The places of a ring of which only the written bytes are kept.
 --     length_places, place_at      how many there are, and what each has
 --     write_once, write_twice      bytes written over those that are kept, in one piece and in two
 --     part_at, out_at      so many of them, in one piece or in two
@@ -6,46 +157,20 @@
 --     begun      a ring that begins with these
 --     turned_by, turned_by_less, stayed      a ring that grew where it stands
 --     is_once, is_twice      bytes that are held against those at their places
-use Rattle.std.specs.Prelude.{◌≡◌, ℕ, ◌+◌, ◌-◌, ◌%◌, ◌/◌, ◌*◌, ◌<◌, ◌≤◌, true, false, Bool, if◌then◌else◌, List, ◌++◌, length, take, drop, replicate, slice_index, slice_index_or, min, refl, ◌⊎◌}
-use Rattle.std.proofs.Common.{sym, ◌∙◌, ap, arith, inl, inr, length-drop}
-use Rattle.std.specs.Bool.{Decides}
-use Rattle.std.proofs.lemmas.Bool.{both_ways, cases_lt, cases_order}
-use Rattle.std.proofs.lemmas.Bool.Decides.{nat_tests}
-use Rattle.std.proofs.lemmas.Nat.{mod_below}
-use Rattle.std.proofs.lemmas.Grind.{same_number_lists}
-use Rattle.std.proofs.Math.Seq.{take-append-add}
-use Rattle.std.proofs.lemmas.List.{get_or-take, get_or-drop, get_or_append_left, get_or-append_right, get_or-replicate, get_or_past, length-take, length-append, length-replicate, take-append-le}
-use Rattle.qs_ranges.specs.Numbers.{is_within}
-use Rattle.qs_recv.specs.Ring.{AreAt, IsMoved, IsWritten, around, padded, places_of}
-use Rattle.qs_recv.proofs.RingPlaces.{next_turn, place_past, places, written_once, written_twice}
 
 -- A turn
 
 turned_front : (p i : ℕ) (xs : List ℕ) → p + i < length xs → slice_index (drop p xs ++ take p xs) i ≡ slice_index xs (p + i)
-turned_front p i xs below =
-    let len : length (drop p xs) ≡ length xs - p = simp length-drop (omega arith) in
-    get_or_append_left (drop p xs) (take p xs) 0 i (omega (arith, len, below)) ∙ get_or-drop p xs i 0
+turned_front p i xs below = grind (arith, nat_tests, length-drop, get_or_append_left, get_or-drop)
 
 turned_back : (p i : ℕ) (xs : List ℕ) → p ≤ length xs → length xs ≤ p + i → i < length xs → slice_index (drop p xs ++ take p xs) i ≡ slice_index xs (p + i - length xs)
-turned_back p i xs fits past below =
-    let len : length (drop p xs) ≡ length xs - p = simp length-drop (omega arith) in
-    let same : i - (length xs - p) ≡ p + i - length xs = omega arith in
-    get_or-append_right (drop p xs) (take p xs) (length xs - p) i 0 len (omega arith) ∙ get_or-take p xs (i - (length xs - p)) 0 (omega arith) ∙ ap (slice_index xs) same
+turned_back p i xs fits past below = grind (arith, nat_tests, length-drop, get_or-append_right, get_or-take)
 
 -- Places
 
 -- a whole turn further on
 whole_turn : (q w : ℕ) → 0 < w → (q + w) % w ≡ q % w
-whole_turn q w pos =
-    let a = mod_below q w pos in
-    let b = mod_below (q + w) w pos in
-    elim (cases_order ((q + w) / w) (q / w)) [
-      | inl same ↦ (let m = ap (λ k. w * k) same in absurd (omega (arith, m, a, b)))
-      | inr apart ↦ elim apart [
-        | inl less ↦ (let m = next_turn w (q + w) q pos (omega arith) less in absurd (omega (arith, m, a, b)))
-        | inr more ↦ (let m = next_turn w q (q + w) pos (omega arith) more in omega (arith, m))
-      ]
-    ]
+whole_turn q w pos = grind (arith, nat_tests)
 
 -- the place of an offset a turn further on at most
 place_on : (q t w : ℕ) → 0 < w → t ≤ w → ((q + t) % w ≡ q % w + t) ⊎ ((q + t) % w + w ≡ q % w + t)
@@ -62,21 +187,11 @@ length_padded : (size : ℕ) (bytes : List ℕ) → length bytes ≤ size → le
 length_padded size bytes h = simp (length-append, length-replicate) (omega (arith, h))
 
 pub length_places : (turn size : ℕ) (bytes : List ℕ) → turn ≤ size → length bytes ≤ size → length (places_of turn size bytes) ≡ size
-length_places turn size bytes turned within =
-    let whole = length_padded size bytes within in
-    length-append (drop turn (padded size bytes)) (take turn (padded size bytes))
-    ∙ (let a = length-drop turn (padded size bytes) in let b = length-take turn (padded size bytes) in omega (arith, a, b, whole, turned))
+length_places turn size bytes turned within = grind (arith, nat_tests, length_padded, length-append, length-drop, length-take)
 
 -- what was never written is zero
 padded_at : (size k : ℕ) (bytes : List ℕ) → slice_index (padded size bytes) k ≡ slice_index bytes k
-padded_at size k bytes =
-    elim (cases_lt k (length bytes)) [
-      | inl kept ↦ get_or_append_left bytes (replicate (size - length bytes) 0) 0 k kept
-      | inr past ↦ get_or-append_right bytes (replicate (size - length bytes) 0) (length bytes) k 0 refl past ∙ zeros (size - length bytes) (k - length bytes) ∙ sym (get_or_past bytes k 0 past)
-    ]
-  where
-    zeros : (n i : ℕ) → slice_index (replicate n 0) i ≡ 0
-    zeros n i = elim (cases_lt i n) [ inl below ↦ get_or-replicate n i 0 0 below | inr over ↦ get_or_past (replicate n 0) i 0 (let l = length-replicate {A = ℕ} n 0 in omega (arith, l, over)) ]
+padded_at size k bytes = grind (arith, nat_tests, get_or_append_left, get_or-append_right, get_or_past, get_or-replicate, length-replicate)
 
 pub place_at : (turn size q : ℕ) (bytes : List ℕ) → 0 < size → turn ≤ size → length bytes ≤ size → slice_index (places_of turn size bytes) (q % size) ≡ slice_index bytes ((q + turn) % size)
 place_at turn size q bytes pos turned within =
@@ -93,37 +208,18 @@ place_at turn size q bytes pos turned within =
 
 -- the same where the place is told by the ring's length
 pub place_of_size : (turn size q : ℕ) (bytes : List ℕ) → 0 < size → turn ≤ size → length bytes ≤ size → slice_index (places_of turn size bytes) (q % length (places_of turn size bytes)) ≡ slice_index bytes ((q + turn) % size)
-place_of_size turn size q bytes pos turned within =
-    ap (λ n. slice_index (places_of turn size bytes) (q % n)) (length_places turn size bytes turned within) ∙ place_at turn size q bytes pos turned within
+place_of_size turn size q bytes pos turned within = grind (arith, nat_tests, length_places, place_at)
 
 -- Written
 
 -- what is written to the kept bytes is written to the places
 write_turned : (at turn size : ℕ) (bytes old new : List ℕ) → 0 < size → turn ≤ size → length old ≤ size → length new ≤ size → IsWritten (at + turn) bytes (padded size old) (padded size new) → IsWritten at bytes (places_of turn size old) (places_of turn size new)
-write_turned at turn size bytes old new pos turned within after written q low high =
-    let w = length_places turn size old turned within in
-    let p = length_padded size old within in
-    let k = (q + turn) % size in
-    let was : slice_index (padded size new) ((q + turn) % length (padded size old)) ≡ (if is_within (at + turn) (at + turn + length bytes) (q + turn) then slice_index bytes (q + turn - (at + turn)) else slice_index (padded size old) ((q + turn) % length (padded size old))) =
-    written (q + turn) (omega (arith, low, w, p)) (omega (arith, high, w, p)) in
-    let same : is_within (at + turn) (at + turn + length bytes) (q + turn) ≡ is_within at (at + length bytes) q = grind (arith, nat_tests) in
-    let behind : q + turn - (at + turn) ≡ q - at = omega arith in
-    ap (λ n. slice_index (places_of turn size new) (q % n)) w ∙ place_at turn size q new pos turned after
-    ∙ sym (padded_at size k new) ∙ ap (λ n. slice_index (padded size new) ((q + turn) % n)) (sym p) ∙ was
-    ∙ ap (λ t. if t then slice_index bytes (q + turn - (at + turn)) else slice_index (padded size old) ((q + turn) % length (padded size old))) same
-    ∙ ap (λ i. if is_within at (at + length bytes) q then slice_index bytes i else slice_index (padded size old) ((q + turn) % length (padded size old))) behind
-    ∙ ap (λ v. if is_within at (at + length bytes) q then slice_index bytes (q - at) else v)
-    (ap (λ n. slice_index (padded size old) ((q + turn) % n)) p ∙ padded_at size k old ∙ sym (place_at turn size q old pos turned within) ∙ ap (λ n. slice_index (places_of turn size old) (q % n)) (sym w))
+write_turned at turn size bytes old new pos turned within after written q low high = grind (arith, nat_tests, length_places, length_padded, place_at, padded_at)
 
 pub write_once : (at turn size place : ℕ) (bytes old new : List ℕ) → 0 < size → turn ≤ size → length old ≤ size → length new ≤ size → place ≡ (at + turn) % size → place + length bytes ≤ size
     → ((k : ℕ) → slice_index new k ≡ (if is_within place (place + length bytes) k then slice_index bytes (k - place) else slice_index old k))
     → IsWritten at bytes (places_of turn size old) (places_of turn size new)
-write_once at turn size place bytes old new pos turned within after place_is fits is =
-    let p = length_padded size old within in
-    let at_is : place ≡ (at + turn) % length (padded size old) = place_is ∙ ap (λ n. (at + turn) % n) (sym p) in
-    write_turned at turn size bytes old new pos turned within after
-    (written_once (at + turn) bytes (padded size old) (padded size new) (omega (arith, p, pos)) (omega (arith, p, at_is, fits))
-    (rw (← at_is) (λ k. padded_at size k new ∙ is k ∙ ap (λ v. if is_within place (place + length bytes) k then slice_index bytes (k - place) else v) (sym (padded_at size k old)))))
+write_once at turn size place bytes old new pos turned within after place_is fits is = grind (arith, nat_tests, length_padded, write_turned, written_once, padded_at)
 
 pub write_twice : (at turn size place room : ℕ) (bytes front back old mid new : List ℕ) → 0 < size → turn ≤ size → length old ≤ size → length new ≤ size → place ≡ (at + turn) % size → length bytes ≤ size → room ≡ size - place → room < length bytes
     → front ≡ take room bytes → back ≡ drop room bytes → length front ≡ room → length back + room ≡ length bytes
@@ -173,90 +269,35 @@ part_at at turn size place count bytes pos turned within place_is fits reaches k
 -- copied out in one piece
 pub out_at_once : (at turn size place count to : ℕ) (bytes out : List ℕ) → 0 < size → turn ≤ size → length bytes ≤ size → place ≡ (at + turn) % size → place + count ≤ length bytes → to ≡ place + count → out ≡ take (to - place) (drop place bytes)
     → (k : ℕ) → k < count → slice_index out k ≡ slice_index (places_of turn size bytes) ((at + k) % length (places_of turn size bytes))
-out_at_once at turn size place count to bytes out pos turned within place_is fits end is k below =
-    let e : to - place ≡ count = omega (arith, end) in
-    ap (λ xs. slice_index xs k) (is ∙ ap (λ n. take n (drop place bytes)) e ∙ around_once place count bytes fits)
-    ∙ part_at at turn size place count bytes pos turned within place_is (omega (arith, fits, within)) (omega (arith, fits)) k below
+out_at_once at turn size place count to bytes out pos turned within place_is fits end is k below = grind (arith, nat_tests, around_once, part_at)
 
 -- and in two
 pub out_at_twice : (count : ℕ) (front back into mid out : List ℕ) → length front + length back ≡ count
     → ((k : ℕ) → slice_index mid k ≡ (if is_within 0 (0 + length front) k then slice_index front (k - 0) else slice_index into k))
     → ((k : ℕ) → slice_index out k ≡ (if is_within (length front) (length front + length back) k then slice_index back (k - length front) else slice_index mid k))
     → (k : ℕ) → k < count → slice_index out k ≡ slice_index (front ++ back) k
-out_at_twice count front back into mid out len mid_is out_is k below =
-    elim (cases_lt k (length front)) [
-      | inl first ↦
-          let a : is_within (length front) (length front + length back) k ≡ false = grind (arith, nat_tests) in
-          let b : is_within 0 (0 + length front) k ≡ true = grind (arith, nat_tests) in
-          let whole : k - 0 ≡ k = omega arith in
-          out_is k ∙ ap (λ t. if t then slice_index back (k - length front) else slice_index mid k) a
-          ∙ mid_is k ∙ ap (λ t. if t then slice_index front (k - 0) else slice_index into k) b ∙ ap (slice_index front) whole
-          ∙ sym (get_or_append_left front back 0 k first)
-      | inr second ↦
-          let a : is_within (length front) (length front + length back) k ≡ true = inside k (length front) (length back) second (omega (arith, below, len)) in
-          out_is k ∙ ap (λ t. if t then slice_index back (k - length front) else slice_index mid k) a
-          ∙ sym (get_or-append_right front back (length front) k 0 refl second)
-    ]
-  where
-    inside : (k f b : ℕ) → f ≤ k → k < f + b → is_within f (f + b) k ≡ true
-    inside k f b low high = grind (arith, nat_tests)
+out_at_twice count front back into mid out len mid_is out_is k below = grind (arith, nat_tests, get_or_append_left, get_or-append_right)
 
 -- A ring that begins with them
 
 -- the offset `from` stands first
 pub first_place : (from q v : ℕ) → 0 < v → from ≤ q → q < from + v → (q + (v - from % v)) % v ≡ q - from
-first_place from q v pos low high =
-    let a = mod_below from v pos in
-    let b = mod_below q v pos in
-    let c = mod_below (q + (v - from % v)) v pos in
-    elim (place_on q (v - from % v) v pos (omega arith)) [
-      | inl on ↦ elim (places from q v pos (omega (arith, low)) high) [
-        | inl x ↦ omega (arith, a, b, c, on, x)
-        | inr y ↦ elim y [ inl x ↦ omega (arith, a, b, c, on, x) | inr x ↦ omega (arith, a, b, c, on, x) ]
-      ]
-      | inr around ↦ elim (places from q v pos (omega (arith, low)) high) [
-        | inl x ↦ omega (arith, a, b, c, around, x)
-        | inr y ↦ elim y [ inl x ↦ omega (arith, a, b, c, around, x) | inr x ↦ omega (arith, a, b, c, around, x) ]
-      ]
-    ]
+first_place from q v pos low high = grind (arith, nat_tests)
 
 pub begun : (from turn size place count v start : ℕ) (bytes kept : List ℕ) → 0 < size → turn ≤ size → length bytes ≤ size → place ≡ (from + turn) % size → count ≤ size → min (place + count) size ≤ length bytes
     → 0 < v → count ≤ v → start ≡ v - from % v → kept ≡ around place count bytes → IsMoved from count (places_of turn size bytes) (places_of start v kept)
 begun from turn size place count v start bytes kept pos turned within place_is fits reaches some room start_is is q low high =
     let len : length kept ≡ count = ap length is ∙ length_around place count bytes (omega (arith, reaches, fits)) in
     let at : from + (q - from) ≡ q = omega (arith, low) in
-    place_of_size start v q kept some (omega (arith, start_is)) (omega (arith, len, room))
-    ∙ ap (λ n. slice_index kept ((q + n) % v)) start_is
-    ∙ ap (slice_index kept) (first_place from q v some low (omega (arith, high, room)))
-    ∙ ap (λ xs. slice_index xs (q - from)) is
-    ∙ part_at from turn size place count bytes pos turned within place_is fits reaches (q - from) (omega (arith, low, high))
-    ∙ ap (λ n. slice_index (places_of turn size bytes) (n % length (places_of turn size bytes))) at
+    grind (arith, nat_tests, place_of_size, first_place, part_at)
 
 -- so many bytes that were copied to the front
 pub moved_down : (place count : ℕ) (bytes moved cut : List ℕ) → place ≤ length bytes → count ≤ length bytes - place → length moved ≡ length bytes → ((k d : ℕ) → 0 ≤ k → k < 0 + count → slice_index_or moved k d ≡ slice_index_or bytes (place + (k - 0)) d) → cut ≡ take count moved → cut ≡ around place count bytes
-moved_down place count bytes moved cut begins fits len copied cut_is =
-    let a : length (take count moved) ≡ count = simp length-take (omega (arith, fits, len)) in
-    let b : length (take count (drop place bytes)) ≡ count = simp (length-take, length-drop) (omega (arith, fits)) in
-    cut_is ∙ same_number_lists (take count moved) (take count (drop place bytes)) (a ∙ sym b) (λ k below.
-    let low : k < count = omega (arith, below, a) in
-    let from : place + (k - 0) ≡ place + k = omega arith in
-    get_or-take count moved k 0 low ∙ copied k 0 (omega arith) (omega (arith, low)) ∙ ap (slice_index bytes) from ∙ sym (get_or-take count (drop place bytes) k 0 low ∙ get_or-drop place bytes k 0))
-    ∙ around_once place count bytes (omega (arith, begins, fits))
+moved_down place count bytes moved cut begins fits len copied cut_is = grind (arith, common_steps, same_number_lists, get_or-drop)
 
 -- so many of the bytes that were turned
 pub rotated : (place count : ℕ) (bytes turned cut : List ℕ) → place ≤ length bytes → count ≤ length bytes → turned ≡ drop place bytes ++ take place bytes → cut ≡ take count turned → cut ≡ around place count bytes
-rotated place count bytes turned cut begins fits turned_is cut_is =
-    let len = length-drop place bytes in
-    let a : length (take count (drop place bytes ++ take place bytes)) ≡ count = simp (length-take, length-append, length-drop) (omega (arith, begins, fits)) in
-    let b = length_around place count bytes fits in
-    cut_is ∙ ap (take count) turned_is ∙ same_number_lists (take count (drop place bytes ++ take place bytes)) (around place count bytes) (a ∙ sym b) (λ k below.
-    let low : k < count = omega (arith, below, a) in
-    get_or-take count (drop place bytes ++ take place bytes) k 0 low ∙ elim (cases_lt k (length (drop place bytes))) [
-      | inl first ↦ get_or_append_left (drop place bytes) (take place bytes) 0 k first ∙ sym (get_or_append_left (drop place bytes) bytes 0 k first)
-      | inr second ↦
-          get_or-append_right (drop place bytes) (take place bytes) (length (drop place bytes)) k 0 refl second ∙ get_or-take place bytes (k - length (drop place bytes)) 0 (omega (arith, len, low, fits, begins, second))
-          ∙ sym (get_or-append_right (drop place bytes) bytes (length (drop place bytes)) k 0 refl second)
-    ] ∙ sym (get_or-take count (drop place bytes ++ bytes) k 0 low))
+rotated place count bytes turned cut begins fits turned_is cut_is = grind (arith, nat_tests, length-drop, length-take, length-append, same_number_lists, get_or-take, get_or_append_left, get_or-append_right)
 
 -- Held against others
 
@@ -283,63 +324,25 @@ there_back at turn size place k bytes pos turned within place_is below high =
 
 pub is_once : (at turn size place : ℕ) (kept bytes : List ℕ) (r : Bool) → 0 < size → turn ≤ size → length kept ≤ size → place ≡ (at + turn) % size → place + length bytes ≤ size
     → Decides r ((k : ℕ) → k < length bytes → slice_index bytes k ≡ slice_index kept (place + k)) → Decides r (AreAt (places_of turn size kept) at bytes)
-is_once at turn size place kept bytes r pos turned within place_is fits decides = (
-  λ equal k below. decides.0 equal k below ∙ sym (there_front at turn size place k kept pos turned within place_is (omega (arith, below, fits))),
-  λ all. decides.1 (λ k below. all k below ∙ there_front at turn size place k kept pos turned within place_is (omega (arith, below, fits))),
-)
+is_once at turn size place kept bytes r pos turned within place_is fits decides = grind (arith, nat_tests, there_front)
 
 pub not_front : (at turn size place room : ℕ) (kept bytes front : List ℕ) (r : Bool) → 0 < size → turn ≤ size → length kept ≤ size → place ≡ (at + turn) % size → room ≡ size - place → room < length bytes → front ≡ take room bytes → length front ≡ room
     → Decides r ((k : ℕ) → k < length front → slice_index front k ≡ slice_index kept (place + k)) → r ≡ false → Decides r (AreAt (places_of turn size kept) at bytes)
-not_front at turn size place room kept bytes front r pos turned within place_is rest more front_is front_len decides apart = (
-  λ equal. absurd (both_ways r apart equal),
-  λ all. decides.1 (λ k below.
-      ap (λ xs. slice_index xs k) front_is ∙ get_or-take room bytes k 0 (omega (arith, below, front_len)) ∙ all k (omega (arith, below, front_len, more))
-      ∙ there_front at turn size place k kept pos turned within place_is (omega (arith, below, front_len, rest))),
-)
+not_front at turn size place room kept bytes front r pos turned within place_is rest more front_is front_len decides apart = grind (arith, nat_tests, get_or-take, there_front)
 
 pub is_twice : (at turn size place room : ℕ) (kept bytes front back : List ℕ) (r s : Bool) → 0 < size → turn ≤ size → length kept ≤ size → place ≡ (at + turn) % size → length bytes ≤ size → room ≡ size - place → room < length bytes
     → front ≡ take room bytes → back ≡ drop room bytes → length front ≡ room → length back + room ≡ length bytes
     → Decides r ((k : ℕ) → k < length front → slice_index front k ≡ slice_index kept (place + k)) → r ≡ true
     → Decides s ((k : ℕ) → k < length back → slice_index back k ≡ slice_index kept (0 + k)) → Decides s (AreAt (places_of turn size kept) at bytes)
-is_twice at turn size place room kept bytes front back r s pos turned within place_is fits rest more front_is back_is front_len back_len first equal second =
-    let start : place < size = rw place_is (mod_below (at + turn) size pos) in (
-      λ also k below.
-          elim (cases_lt k room) [
-            | inl before ↦
-                sym (get_or-take room bytes k 0 before) ∙ ap (λ xs. slice_index xs k) (sym front_is) ∙ first.0 equal k (omega (arith, before, front_len))
-                ∙ sym (there_front at turn size place k kept pos turned within place_is (omega (arith, before, rest)))
-            | inr past ↦
-                let e : room + (k - room) ≡ k = omega (arith, past) in
-                ap (slice_index bytes) (sym e) ∙ sym (get_or-drop room bytes (k - room) 0) ∙ ap (λ xs. slice_index xs (k - room)) (sym back_is) ∙ second.0 also (k - room) (omega (arith, below, past, back_len))
-                ∙ ap (λ n. slice_index kept (0 + (k - n))) rest ∙ sym (there_back at turn size place k kept pos turned within place_is (omega (arith, below, fits)) (omega (arith, past, rest)))
-          ],
-      λ all. second.1 (λ k below.
-          let back_k : 0 + (room + k - (size - place)) ≡ 0 + k = omega (arith, rest) in
-          ap (λ xs. slice_index xs k) back_is ∙ get_or-drop room bytes k 0 ∙ all (room + k) (omega (arith, below, back_len))
-          ∙ there_back at turn size place (room + k) kept pos turned within place_is (omega (arith, below, back_len, fits)) (omega (arith, rest, start)) ∙ ap (slice_index kept) back_k),
-    )
+is_twice at turn size place room kept bytes front back r s pos turned within place_is fits rest more front_is back_is front_len back_len first equal second = grind (arith, nat_tests, get_or-take, there_front, get_or-drop, there_back)
 
 -- A ring that grew where it stands
 
 pub turned_by : (place from size part : ℕ) → place < size → part ≡ from % size → place + (size - part) ≤ size → place ≡ (from + (place + (size - part))) % size
-turned_by place from size part within is fits =
-    let pos : 0 < size = omega (arith, within) in
-    let a = mod_below from size pos in
-    let b = mod_below (from + (place + (size - part))) size pos in
-    elim (place_on from (place + (size - part)) size pos fits) [
-      | inl on ↦ omega (arith, a, b, on, is, within)
-      | inr around ↦ omega (arith, a, b, around, is, within)
-    ]
+turned_by place from size part within is fits = grind (arith, nat_tests)
 
 pub turned_by_less : (place from size part : ℕ) → place < size → part ≡ from % size → size < place + (size - part) → place ≡ (from + (place + (size - part) - size)) % size
-turned_by_less place from size part within is over =
-    let pos : 0 < size = omega (arith, within) in
-    let a = mod_below from size pos in
-    let b = mod_below (from + (place + (size - part) - size)) size pos in
-    elim (place_on from (place + (size - part) - size) size pos (omega (arith, within, a, is))) [
-      | inl on ↦ omega (arith, a, b, on, is, within, over)
-      | inr around ↦ omega (arith, a, b, around, is, within, over)
-    ]
+turned_by_less place from size part within is over = grind (arith, nat_tests)
 
 pub stayed : (from turn size place count v start : ℕ) (bytes kept : List ℕ) → 0 < size → turn ≤ size → length bytes ≤ size → place ≡ (from + turn) % size → place + count ≤ size
     → size ≤ v → start ≤ v → place ≡ (from + start) % v → kept ≡ bytes → IsMoved from count (places_of turn size bytes) (places_of start v kept)
@@ -347,16 +350,13 @@ stayed from turn size place count v start bytes kept pos turned within place_is 
     let at : from + (q - from) ≡ q = omega (arith, low) in
     let old = there_front from turn size place (q - from) bytes pos turned within place_is (omega (arith, low, high, fits)) in
     let new = there_front from start v place (q - from) kept (omega (arith, pos, more)) start_fits (rw same (omega (arith, within, more))) start_is (omega (arith, low, high, fits, more)) in
-    ap (λ n. slice_index (places_of start v kept) (n % length (places_of start v kept))) (sym at) ∙ new ∙ ap (λ xs. slice_index xs (place + (q - from))) same
-    ∙ sym old ∙ ap (λ n. slice_index (places_of turn size bytes) (n % length (places_of turn size bytes))) at
+    grind (arith, nat_tests)
 
 -- Zeros
 
 -- the places are the same with zeros behind what is kept
 pub same_places : (turn size : ℕ) (old new : List ℕ) → length old ≤ size → length new ≤ size → ((k : ℕ) → slice_index new k ≡ slice_index old k) → places_of turn size new ≡ places_of turn size old
-same_places turn size old new within after same =
-    ap (λ xs. drop turn xs ++ take turn xs)
-    (same_number_lists (padded size new) (padded size old) (length_padded size new after ∙ sym (length_padded size old within)) (λ k below. padded_at size k new ∙ same k ∙ sym (padded_at size k old)))
+same_places turn size old new within after same = grind (arith, nat_tests, same_number_lists, length_padded, padded_at)
 
 pub length_parts : (size place count : ℕ) (bytes front back : List ℕ) → count ≤ size → min (place + count) size ≤ length bytes → front ++ back ≡ around place count bytes → length front + length back ≡ count
 length_parts size place count bytes front back fits reaches is =
@@ -366,43 +366,121 @@ length_parts size place count bytes front back fits reaches is =
 
 -- cut off or filled up with zeros
 pub cut_to : (place count : ℕ) (old mid : List ℕ) → count ≡ length old → mid ≡ take place old ++ replicate (place - count) 0 → (length mid ≡ place) × ((k : ℕ) → k < place → slice_index mid k ≡ slice_index old k)
-cut_to place count old mid count_is is =
-    let cut = length-take place old in
-    let zeros = length-replicate {A = ℕ} (place - count) 0 in (
-      ap length is ∙ length-append (take place old) (replicate (place - count) 0) ∙ omega (arith, cut, zeros, count_is),
-      λ k below. ap (λ xs. slice_index xs k) is ∙ elim (cases_lt k (length old)) [
-        | inl kept ↦ get_or_append_left (take place old) (replicate (place - count) 0) 0 k (omega (arith, cut, kept, below)) ∙ get_or-take place old k 0 below
-        | inr past ↦
-            get_or-append_right (take place old) (replicate (place - count) 0) (length old) k 0 (omega (arith, cut, past, below)) past
-            ∙ get_or-replicate (place - count) (k - length old) 0 0 (omega (arith, past, below, count_is)) ∙ sym (get_or_past old k 0 past)
-      ],
-    )
+cut_to place count old mid count_is is = grind (arith, nat_tests, length-take, length-replicate, length-append, get_or_append_left, get_or-take, get_or-append_right, get_or-replicate, get_or_past)
 
 pub written_over : (place : ℕ) (old mid new bytes : List ℕ) → length old < place + length bytes → length mid ≡ place → ((k : ℕ) → k < place → slice_index mid k ≡ slice_index old k) → new ≡ mid ++ bytes
     → (k : ℕ) → slice_index new k ≡ (if is_within place (place + length bytes) k then slice_index bytes (k - place) else slice_index old k)
-written_over place old mid new bytes past len same is k =
-    ap (λ xs. slice_index xs k) is ∙ elim (cases_lt k place) [
-      | inl before ↦
-          let a : is_within place (place + length bytes) k ≡ false = grind (arith, nat_tests) in
-          get_or_append_left mid bytes 0 k (omega (arith, before, len)) ∙ same k before ∙ sym (ap (λ t. if t then slice_index bytes (k - place) else slice_index old k) a)
-      | inr from ↦ get_or-append_right mid bytes place k 0 len from ∙ elim (cases_lt k (place + length bytes)) [
-        | inl inside ↦
-            let a : is_within place (place + length bytes) k ≡ true = grind (arith, nat_tests) in
-            sym (ap (λ t. if t then slice_index bytes (k - place) else slice_index old k) a)
-        | inr behind ↦
-            let a : is_within place (place + length bytes) k ≡ false = grind (arith, nat_tests) in
-            get_or_past bytes (k - place) 0 (omega (arith, behind)) ∙ sym (get_or_past old k 0 (omega (arith, behind, past))) ∙ sym (ap (λ t. if t then slice_index bytes (k - place) else slice_index old k) a)
-      ]
-    ]
+written_over place old mid new bytes past len same is k = grind (arith, nat_tests, get_or_append_left, get_or-append_right, get_or_past)
 
 -- bytes that are the ones from a place on
 pub is_part : (place to : ℕ) (kept bytes : List ℕ) (r : Bool) → place + length bytes ≤ length kept → to ≡ place + length bytes → Decides r (bytes ≡ take (to - place) (drop place kept))
     → Decides r ((k : ℕ) → k < length bytes → slice_index bytes k ≡ slice_index kept (place + k))
-is_part place to kept bytes r fits end decides =
-    let n : to - place ≡ length bytes = omega (arith, end) in
-    let there : (k : ℕ) → k < length bytes → slice_index (take (to - place) (drop place kept)) k ≡ slice_index kept (place + k) =
-    λ k below. get_or-take (to - place) (drop place kept) k 0 (omega (arith, n, below)) ∙ get_or-drop place kept k 0 in
-    let len : length (take (to - place) (drop place kept)) ≡ length bytes = simp (length-take, length-drop) (omega (arith, n, fits)) in (
-      λ equal k below. ap (λ xs. slice_index xs k) (decides.0 equal) ∙ there k below,
-      λ all. decides.1 (same_number_lists bytes (take (to - place) (drop place kept)) (sym len) (λ k below. all k below ∙ sym (there k below))),
-    )
+is_part place to kept bytes r fits end decides = grind (arith, nat_tests, get_or-take, get_or-drop, length-take, length-drop, same_number_lists)
+
+-- ---- Which places of a ring were written, and that those of what came are.
+--     there_in, there_out      of an offset, where the place is told by the ring's size
+--     stay_written, once_written, all_written      after bytes were written
+--     begun_written, stayed_written      in a ring of another size
+--     reached      so many bytes were, so the kept bytes reach over them
+--     filled_more, piece_there      a gap after another, and a page
+--     came_..      what came has its byte, after each call of an assembly
+
+-- Places
+
+pub there_in : (turn size count q : ℕ) (bytes : List ℕ) → turn ≤ size → length bytes ≤ size → (q + turn) % size < count → IsThere (places_of turn size bytes, (turn, count)) q
+there_in turn size count q bytes turned within is = subst (λ n. (q + turn) % n < count) (sym (length_places turn size bytes turned within)) is
+
+pub there_out : (turn size count q : ℕ) (bytes : List ℕ) → turn ≤ size → length bytes ≤ size → IsThere (places_of turn size bytes, (turn, count)) q → (q + turn) % size < count
+there_out turn size count q bytes turned within is = subst (λ n. (q + turn) % n < count) (length_places turn size bytes turned within) is
+
+-- the place of an offset that lies so much further on, where it doesn't wrap
+past_place : (at turn size place q : ℕ) → 0 < size → place ≡ (at + turn) % size → at ≤ q → place + (q - at) < size → (q + turn) % size ≡ place + (q - at)
+past_place at turn size place q pos place_is low below = grind (arith, nat_tests)
+
+pub stay_written : (turn size one two : ℕ) (old new : List ℕ) → turn ≤ size → length old ≤ size → length new ≤ size → one ≤ two → StayWritten (places_of turn size old, (turn, one)) (places_of turn size new, (turn, two))
+stay_written turn size one two old new turned within after more q is = grind (arith, common_steps, there_out)
+
+pub once_written : (at turn size place n count : ℕ) (bytes : List ℕ) → 0 < size → turn ≤ size → length bytes ≤ size → place ≡ (at + turn) % size → place + n ≤ size → place + n ≤ count → AreWritten (places_of turn size bytes, (turn, count)) at (at + n)
+once_written at turn size place n count bytes pos turned within place_is fits more q low high =
+    let here = past_place at turn size place q pos place_is low (omega (arith, low, high, fits)) in
+    there_in turn size count q bytes turned within (omega (arith, here, low, high, more))
+
+pub all_written : (at to turn size count : ℕ) (bytes : List ℕ) → 0 < size → turn ≤ size → length bytes ≤ size → size ≤ count → AreWritten (places_of turn size bytes, (turn, count)) at to
+all_written at to turn size count bytes pos turned within more q low high = grind (arith, nat_tests, there_in)
+
+pub begun_written : (from v start count kept : ℕ) (bytes : List ℕ) → 0 < v → start ≡ v - from % v → count ≤ v → length bytes ≤ v → kept ≡ count → AreWritten (places_of start v bytes, (start, kept)) from (from + count)
+begun_written from v start count kept bytes pos start_is fits within is q low high = grind (arith, nat_tests, first_place, there_in)
+
+pub stayed_written : (from turn size place count v start kept two : ℕ) (bytes new : List ℕ) → 0 < size → turn ≤ size → length bytes ≤ size → place ≡ (from + turn) % size → place + count ≤ size
+    → size ≤ v → start ≤ v → place ≡ (from + start) % v → length new ≤ v → kept ≤ two → StayWrittenTo from (from + count) (places_of turn size bytes, (turn, kept)) (places_of start v new, (start, two))
+stayed_written from turn size place count v start kept two bytes new pos turned within place_is fits more start_fits start_is after longer q low high is =
+    let was = there_out turn size kept q bytes turned within is in
+    let old = past_place from turn size place q pos place_is low (omega (arith, low, high, fits)) in
+    let here = past_place from start v place q (omega (arith, pos, more)) start_is low (omega (arith, low, high, fits, more)) in
+    there_in start v two q new start_fits after (omega (arith, was, old, here, longer))
+
+pub reached : (at turn size place count kept : ℕ) (bytes : List ℕ) → 0 < size → turn ≤ size → length bytes ≤ size → place ≡ (at + turn) % size → 0 < count → count ≤ size
+    → AreWritten (places_of turn size bytes, (turn, kept)) at (at + count) → min (place + count) size ≤ kept
+reached at turn size place count kept bytes pos turned within place_is some fits all =
+    let begins = mod_below (at + turn) size pos in
+    elim (cases_lt size (place + count)) [
+      | inl wraps ↦
+          let q = at + (size - 1 - place) in
+          let there = there_out turn size kept q bytes turned within (all q (omega arith) (omega (arith, wraps, begins, place_is))) in
+          let here = past_place at turn size place q pos place_is (omega arith) (omega (arith, begins, place_is, pos)) in
+          omega (arith, there, here, begins, place_is, pos)
+      | inr once ↦
+          let q = at + (count - 1) in
+          let there = there_out turn size kept q bytes turned within (all q (omega arith) (omega (arith, some))) in
+          let here = past_place at turn size place q pos place_is (omega arith) (omega (arith, once, some)) in
+          omega (arith, there, here, some)
+    ]
+
+-- where nothing is kept, a ring may begin anywhere
+pub stay_begun : (first from kept : ℕ) (old new : RingBytes) → StayWrittenTo (if kept == 0 then first else from) ((if kept == 0 then first else from) + kept) old new → StayWrittenTo from (from + kept) old new
+stay_begun first from kept old new stay = grind (arith, nat_tests)
+
+-- the gap from `at` to `stop` was filled, and what follows it came before
+pub filled_more : (r : NumberSet) (first at stop next offset : ℕ) (bytes : List ℕ) (mid new : RingBytes) → AreFilled r first at mid → StayWritten mid new
+    → AreWritten new at (at + length (take (stop - offset - (at - offset)) (drop (at - offset) bytes))) → offset ≤ at → at ≤ stop → stop ≤ offset + length bytes → ContainsRange r stop next → AreFilled r first next new
+filled_more r first at stop next offset bytes mid new filled stay written begins ordered within known q low high fresh = grind (arith, nat_tests, length-take, length-drop)
+
+-- a page was moved into the ring
+pub piece_there : (number to q count : ℕ) (page : List ℕ) (mid new : RingBytes) → number * 2048 < to → count ≡ min (to - number * 2048) 2048 → length page ≡ 2048 → StayWritten mid new
+    → AreWritten new (number * 2048) (number * 2048 + length (take count page)) → q / 2048 < number + 1 → q < to → (q / 2048 < number → IsThere mid q) → IsThere new q
+piece_there number to q count page mid new some count_is whole stay written low below before = grind (arith, nat_tests, length-take)
+
+-- What came
+
+-- an offset that came now or before
+came_either : (r : NumberSet) (offset n q : ℕ) → set.contains (with_run r offset n) q ≡ true → (set.contains r q ≡ true) ⊎ ((set.contains r q ≡ false) × (offset ≤ q) × (q < offset + n))
+came_either r offset n q came = grind (arith, nat_tests, contains-with_run)
+
+-- bytes were stored in the ring
+pub came_near : (r : NumberSet) (from near offset n first top : ℕ) (ring new : RingBytes) → CameWritten ring r from near false → StayWritten ring new → AreFilled r first (offset + n) new → ContainsRange r (max offset from) first
+    → ((q : ℕ) → near ≤ q → set.contains r q ≡ true → offset + n ≤ near) → top ≡ max near (offset + n) → CameWritten new (with_run r offset n) from top false
+came_near r from near offset n first top ring new was stay filled known last top_is on q low high came = grind (arith, nat_tests, came_either, cases_lt)
+
+-- bytes were stored apart
+pub came_far : (r : NumberSet) (from near offset n first : ℕ) (ring : RingBytes) → CameWritten ring r from near false → ContainsRange r (max offset from) first → near ≤ first → CameWritten ring (with_run r offset n) from near false
+came_far r from near offset n first ring was known far on q low high came = grind (arith, nat_tests, came_either)
+
+-- none were stored
+pub came_still : (r : NumberSet) (from near : ℕ) (ring new : RingBytes) → CameWritten ring r from near false → StayWritten ring new → CameWritten new r from near false
+came_still r from near ring new was stay on q low high came = stay q (was refl q low high came)
+
+-- the ring reaches elsewhere
+pub came_moved : (r : NumberSet) (from after near to : ℕ) (ring new : RingBytes) → CameWritten ring r from near false → from ≤ after → near ≤ to → StayWrittenTo after to ring new → CameWritten new r after near false
+came_moved r from after near to ring new was past ends stay on q low high came = stay q low (omega (arith, high, ends)) (was refl q (omega (arith, low, past)) high came)
+
+-- pages were moved into it
+pub came_drawn : (r : NumberSet) (from near next end to : ℕ) (ring wide new : RingBytes) (pages : Pages) → CameWritten ring r from near false → IsApart ring.0 pages r from near end → near ≤ to → StayWrittenTo from to ring wide → StayWritten wide new
+    → ((q : ℕ) → near / 2048 < q / 2048 → q < next → has_page pages q ≡ true → IsThere new q) → CameWritten new r from next false
+came_drawn r from near next end to ring wide new pages was apart ends reached stay moved on q low high came = grind (arith, nat_tests)
+
+-- where bytes are thrown away, or nothing lies before `near`, nothing is asked
+pub came_off : (r : NumberSet) (from near : ℕ) (ring : RingBytes) → CameWritten ring r from near true
+came_off r from near ring on = absurd (both_ways true on refl)
+
+pub came_none : (r : NumberSet) (from near : ℕ) (ring : RingBytes) (off : Bool) → (off ≡ false → near ≤ from) → CameWritten ring r from near off
+came_none r from near ring off none on q low high came = (let e = none on in absurd (omega (arith, e, low, high)))

@@ -191,7 +191,7 @@ impl<A: Assembly> RecvHalf<A> {
     }
 
     /// Whether a STREAM frame's bytes are those that are stored at their offsets, as far as some still are. It takes no memory.
-    #[tactic(auto, using(crate::proofs::SameLaws::same_empty))]
+    #[tactic(auto, using(crate::proofs::RingLaws::same_empty))]
     pub fn check_bytes(&self, offset: u64, bytes: &[u8]) -> Result<(), RecvFault>
         requires { offset + length bytes.now ≤ MAX_VARINT }
         ensures { result ≡ check_bytes self.now offset bytes.now }
@@ -243,7 +243,7 @@ impl<A: Assembly> RecvHalf<A> {
 
     /// Takes a STREAM frame that passed both checks. The only error is NoMemory. After a reset or a stop its bytes are counted and
     /// discarded.
-    #[tactic(auto, using(crate::proofs::OverLaws::over_stream, crate::proofs::OverLaws::over_grown))]
+    #[tactic(auto, using(crate::proofs::RestLaws::over_stream, crate::proofs::RestLaws::over_grown))]
     pub fn take_stream(&mut self, offset: u64, bytes: &[u8], fin: bool) -> Result<(), RecvFault>
         requires in_range { offset + length bytes.now ≤ MAX_VARINT }
         requires passed { IsOk (check_stream self.old offset (length bytes.now) fin) }
@@ -297,7 +297,7 @@ impl<A: Assembly> RecvHalf<A> {
 
     /// Takes a RESET_STREAM frame that passed the check: what is stored is discarded, and so is what was noted of the received offsets, for
     /// which nothing asks any more. Once all data arrived, or after another reset, nothing changes.
-    #[tactic(auto, using(crate::proofs::OverLaws::over_reset, crate::proofs::OverLaws::over_size))]
+    #[tactic(auto, using(crate::proofs::RestLaws::over_reset, crate::proofs::RestLaws::over_size))]
     pub fn take_reset(&mut self, code: u64, size: u64)
         requires in_range { size ≤ MAX_VARINT }
         requires passed { IsOk (check_reset self.old size) }
@@ -320,7 +320,7 @@ impl<A: Assembly> RecvHalf<A> {
     }
 
     /// Reads the next bytes into the slice's front, or says how the stream stands. The rest of the slice stays.
-    #[tactic(auto, using(crate::proofs::OverLaws::over_read, crate::proofs::OverLaws::over_bytes, crate::proofs::OverLaws::over_after_read))]
+    #[tactic(auto, using(crate::proofs::RestLaws::over_read, crate::proofs::RestLaws::over_bytes, crate::proofs::RestLaws::over_after_read))]
     pub fn read(&mut self, into: &mut [u8]) -> Read
         ensures answer { result ≡ read_answer self.old (length into.old) }
         ensures bytes { let bytes = bytes_read self.old (length into.old) in into.new ≡ bytes ++ drop (length bytes) into.old }
@@ -343,7 +343,7 @@ impl<A: Assembly> RecvHalf<A> {
 
     /// Discards the stored bytes, and those that arrive from now on (section 3.5). The first code stays; a code is at most 2^62 - 1, so
     /// that a frame can carry it. Once the end or a reset was read it changes nothing, so that a half that is over keeps no code.
-    #[tactic(auto, using(crate::proofs::OverLaws::over_stop))]
+    #[tactic(auto, using(crate::proofs::RestLaws::over_stop))]
     pub fn stop(&mut self, code: u64)
         requires { code ≤ MAX_VARINT }
         ensures after { self.new ≡ stop self.old code }
@@ -357,7 +357,7 @@ impl<A: Assembly> RecvHalf<A> {
     }
 
     /// Stops it for a reader that won't ask again: it counts as read to its end as soon as that or a reset comes (sections 3.2 and 3.5).
-    #[tactic(auto, using(crate::proofs::OverLaws::over_forget))]
+    #[tactic(auto, using(crate::proofs::RestLaws::over_forget))]
     pub fn stop_and_discard(&mut self, code: u64)
         requires { code ≤ MAX_VARINT }
         ensures after { self.new ≡ stop_and_discard self.old code }
@@ -372,7 +372,7 @@ impl<A: Assembly> RecvHalf<A> {
 
     /// Raises the limit by what was consumed, once that is the half's share of its window or more, and returns the new one if it rose
     /// (section 4.2). Once the final size is known it stays, since nobody needs it.
-    #[tactic(auto, using(crate::proofs::OverLaws::over_raise))]
+    #[tactic(auto, using(crate::proofs::RestLaws::over_raise))]
     pub fn raise(&mut self) -> Option<u64>
         ensures answer { result ≡ raise_answer self.old }
         ensures after { self.new ≡ raise self.old }
@@ -624,7 +624,7 @@ impl<A: Assembly> RecvHalf<A> {
 impl<A: Peeking> RecvHalf<A> {
     /// What a read with room enough would return, and changes nothing: the next bytes stay where they are, all of them, up to the first
     /// that is missing.
-    #[tactic(auto, using(crate::proofs::OverLaws::over_read))]
+    #[tactic(auto, using(crate::proofs::RestLaws::over_read))]
     pub fn peek(&self) -> Peek<'_>
         ensures { IsPeek self.now result }
     {
@@ -641,7 +641,7 @@ impl<A: Peeking> RecvHalf<A> {
 
 impl<A: Skipping> RecvHalf<A> {
     /// Takes the next bytes, as a read into a slice of so many bytes does, and copies none; or says how the stream stands.
-    #[tactic(auto, using(crate::proofs::OverLaws::over_read, crate::proofs::OverLaws::over_after_read))]
+    #[tactic(auto, using(crate::proofs::RestLaws::over_read, crate::proofs::RestLaws::over_after_read))]
     pub fn skip(&mut self, most: usize) -> Read
         ensures answer { result ≡ read_answer self.old most }
         ensures after { self.new ≡ after_read self.old most }

@@ -99,6 +99,7 @@ impl<A: Assembly> LiveHalf<A> {
     }
 
     /// None while an offset is missing: a late frame could then want its assembly.
+    #[tactic(auto, using(crate::proofs::RestLaws::rested_is))]
     pub(crate) fn rested(&self) -> Option<Rest>
         ensures { IfSome result (λ rest. rest ≡ self.now) }
     {
@@ -185,6 +186,7 @@ impl<A: Assembly> LiveHalf<A> {
         }
     }
 
+    #[tactic(auto, using(crate::proofs::RestLaws::given_some, crate::proofs::LawfulLaws::grown_noted, crate::proofs::LawfulLaws::highest_passed, crate::proofs::RestLaws::let_go_refused))]
     pub(crate) fn take_stream(
         &mut self,
         offset: u64,
@@ -423,6 +425,7 @@ impl<A: Assembly> LiveHalf<A> {
         self.limit
     }
 
+    #[tactic(auto, using(crate::proofs::LawfulLaws::small_count))]
     pub(crate) fn taken(&self) -> u64
         ensures value { result ≡ taken self.now }
         ensures in_range { result ≤ MAX_VARINT }

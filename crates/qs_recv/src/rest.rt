@@ -97,6 +97,7 @@ impl Rest {
         true
     }
 
+    #[tactic(auto, using(crate::proofs::RestLaws::reset_rest_is))]
     pub(crate) fn take_reset(&mut self, code: u64, size: u64)
         requires in_range { size ≤ MAX_VARINT }
         requires passed { IsOk (check_reset self.old size) }
@@ -271,6 +272,7 @@ impl Rest {
         }
     }
 
+    #[tactic(auto, using(qs_ranges::proofs::Edits::one_run_below, qs_ranges::proofs::Edits::no_run_below))]
     pub(crate) fn noted(&self) -> u64
         ensures value { result ≡ noted self.now }
         ensures within { result ≤ highest self.now }
@@ -287,6 +289,7 @@ impl Rest {
         given(self.is_sized, self.size)
     }
 
+    #[tactic(auto, using(crate::proofs::LawfulLaws::taken_within))]
     pub(crate) fn stored(&self) -> u64
         ensures value { result ≡ map.len self.now.arrived.stored }
         ensures none { result ≡ 0 }
@@ -352,6 +355,7 @@ impl Rest {
     }
 
     // None if one of its bytes would be stored, or the offsets would lie apart: only then an assembly is needed.
+    #[tactic(auto, using(std::proofs::lemmas::Bool::both_ways, crate::proofs::RestLaws::apart_below, crate::proofs::RestLaws::news_below))]
     fn end_with(&self, offset: u64, bytes: &[u8]) -> Option<u64>
         requires in_range { offset + length bytes.now ≤ MAX_VARINT }
         ensures ends { IfSome result (EndsAt self.now offset bytes.now) }
@@ -401,6 +405,7 @@ impl Rest {
         self.reader_done && (self.is_reset || self.is_whole())
     }
 
+    #[tactic(auto, using(crate::proofs::RestLaws::whole_below))]
     fn is_whole(&self) -> bool
         ensures { result ≡ is_whole self.now }
     {

@@ -71,6 +71,7 @@ impl Ring {
         }
     }
 
+    #[tactic(auto, using(crate::proofs::RingTurned::length_parts, crate::proofs::RingTurned::length_places, crate::proofs::RingTurned::same_places))]
     pub(crate) fn copy_out(&mut self, at: u64, into: &mut [u8])
         requires small { at ≤ 2 ^ 62 }
         requires fits { length into.old ≤ length self.old.0 }
@@ -125,6 +126,7 @@ impl Ring {
     }
 
     /// What is written behind these bytes is appended.
+    #[tactic(auto, using(crate::proofs::RingTurned::same_places))]
     pub(crate) fn resized(
         &mut self,
         alloc: Global,
@@ -217,7 +219,7 @@ impl Ring {
 }
 
 // Most sizes are powers of two, unless a window cuts one, and there the low bits are the place: no division.
-#[tactic(auto, using(crate::proofs::RingPlaces::place_by_bits))]
+#[tactic(auto, using(crate::proofs::RingTurned::place_by_bits))]
 fn place_of(at: u64, size: usize) -> usize
     requires { 0 < size }
     ensures { result ≡ at % size }
@@ -308,6 +310,7 @@ fn copy_to(made: &mut Vec<u8>, bytes: &[u8], size: usize, place: usize, count: u
 }
 
 #[inline(always)]
+#[tactic(auto, using(crate::proofs::RingTurned::cut_to, crate::proofs::RingTurned::written_over))]
 fn write_over(into: &mut Vec<u8>, place: usize, bytes: &[u8])
     requires { place + length bytes.now ≤ vec_capacity into.old }
     ensures len { vec_len into.new ≡ max (vec_len into.old) (place + length bytes.now) }

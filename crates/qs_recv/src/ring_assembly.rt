@@ -156,6 +156,7 @@ impl Assembly for RingAssembly {
         Ok(())
     }
 
+    #[tactic(auto, using(crate::proofs::RingLaws::empty_front, crate::proofs::RingTurned::came_still))]
     fn take(&mut self, into: &mut [u8]) -> usize {
         if self.discarding {
             return 0;
@@ -167,6 +168,7 @@ impl Assembly for RingAssembly {
         count
     }
 
+    #[tactic(auto, using(std::proofs::lemmas::Bool::both_ways, crate::proofs::RingApart::sized_none, crate::proofs::RingLaws::thrown_away, crate::proofs::RingTurned::came_off))]
     fn discard(&mut self) {
         self.ring = Ring::none(self.alloc);
         self.apart = Pages::none(self.alloc);
@@ -178,6 +180,7 @@ impl Assembly for RingAssembly {
         self.window = self.window.max(window);
     }
 
+    #[tactic(auto, using(crate::proofs::RingApart::emptied_view))]
     fn give_back(&mut self) {
         if self.stored == 0 {
             self.ring = Ring::none(self.alloc);
@@ -203,6 +206,7 @@ impl Assembly for RingAssembly {
         )
     }
 
+    #[inline(always)]
     fn stored(&self) -> u64 {
         self.stored
     }
@@ -211,6 +215,7 @@ impl Assembly for RingAssembly {
         self.ring.len() as u64 + self.apart.count() * PAGE
     }
 
+    #[inline(always)]
     fn received(&self) -> &RangeSet {
         &self.received
     }
@@ -357,6 +362,7 @@ impl RingAssembly {
 }
 
 impl Skipping for RingAssembly {
+    #[tactic(auto, using(crate::proofs::RingLaws::take_done, crate::proofs::RingLaws::came_next, crate::proofs::RingLaws::empty_front))]
     fn skip(&mut self, most: usize) -> usize {
         if self.discarding {
             return 0;
@@ -369,6 +375,7 @@ impl Skipping for RingAssembly {
 }
 
 impl Peeking for RingAssembly {
+    #[tactic(auto, using(crate::proofs::RingApart::next_least, crate::proofs::RingApart::next_near, crate::proofs::RingLaws::came_next), unfolding(crate::specs::Assembled::front))]
     fn front(&self) -> (&[u8], &[u8]) {
         if self.discarding {
             return (&[], &[]);
@@ -484,6 +491,7 @@ fn store(
 }
 
 #[inline(always)]
+#[tactic(auto, using(crate::proofs::RingLaws::missing_all, crate::proofs::RingLaws::missing_zero, crate::proofs::RingTurned::filled_none, crate::proofs::RingTurned::filled_more))]
 fn fill_gaps(
     ring: &mut Ring,
     received: &RangeSet,
@@ -627,6 +635,15 @@ fn next_run(received: &RangeSet, at: u64, end: u64) -> (u64, u64)
     }
 }
 
+fn is_gap(received: &RangeSet, start: u64, end: u64) -> bool
+    ensures { result ≡ true → (q : ℕ) → start ≤ q → q < end → set.contains received.now q ≡ false }
+{
+    match received.run_from(start) {
+        Some((first, _)) => end <= first,
+        None => true,
+    }
+}
+
 #[inline(never)]
 fn is_kept(
     ring: &Ring,
@@ -646,6 +663,10 @@ fn is_kept(
     ensures { IsTrue result ↔ AreKept received.now (byte_of ring.now.0 near apart.now.pages) start offset bytes.now }
 {
     let end = offset + bytes.len() as u64;
+    // Mostly they fill a gap, as those do that come in reverse.
+    if is_gap(received, start, end) {
+        return true;
+    }
     let mut at = start;
     while at < end {
         let (from, to) = next_run(received, at, end);

@@ -155,6 +155,7 @@ impl Assembly for RingAssembly {
         )
     }
 
+    #[inline(always)]
     fn stored(&self) -> u64 {
         self.stored
     }
@@ -163,6 +164,7 @@ impl Assembly for RingAssembly {
         self.ring.len() as u64 + self.apart.count() * PAGE
     }
 
+    #[inline(always)]
     fn received(&self) -> &RangeSet {
         &self.received
     }
@@ -479,6 +481,13 @@ fn next_run(received: &RangeSet, at: u64, end: u64) -> (u64, u64) {
     }
 }
 
+fn is_gap(received: &RangeSet, start: u64, end: u64) -> bool {
+    match received.run_from(start) {
+        Some((first, _)) => end <= first,
+        None => true,
+    }
+}
+
 #[inline(never)]
 fn is_kept(
     ring: &Ring,
@@ -491,6 +500,10 @@ fn is_kept(
 ) -> bool {
     debug_assert!(offset <= start);
     let end = offset + bytes.len() as u64;
+    // Mostly they fill a gap, as those do that come in reverse.
+    if is_gap(received, start, end) {
+        return true;
+    }
     let mut at = start;
     while at < end {
         let (from, to) = next_run(received, at, end);

@@ -1,4 +1,4 @@
-use Rattle.qs_recv.proofs.GrowthLaws.{grows_after_call}
+use Rattle.qs_recv.proofs.LawfulLaws.{grows_after_call}
 use Rattle.qs_recv.proofs.laws.calls_never_take_back.Goals as goal
 
 pub returns : goal.returns

@@ -1,4 +1,4 @@
-use Rattle.qs_recv.proofs.SameAgain.{sent_passes}
+use Rattle.qs_recv.proofs.LawfulLaws.{sent_passes}
 use Rattle.qs_recv.proofs.laws.sent_bytes_pass.Goals as goal
 
 pub returns : goal.returns

@@ -1,4 +1,4 @@
-use Rattle.qs_recv.proofs.SameAgain.{taken_passes}
+use Rattle.qs_recv.proofs.LawfulLaws.{taken_passes}
 use Rattle.qs_recv.proofs.laws.taken_bytes_pass.Goals as goal
 
 pub returns : goal.returns

@@ -1,7 +1,7 @@
 use Rattle.std.proofs.Common.{◌≡◌, ◌∙◌, ◌+◌, ◌-◌, sym, ap, arith, length, refl}
 use Rattle.qs_recv.specs.Ring.{missing_count}
-use Rattle.qs_recv.proofs.PageLaws.{apart_gap, apart_none}
-use Rattle.qs_recv.proofs.RingCount.{missing_gap, missing_zero, run_behind}
+use Rattle.qs_recv.proofs.RingApart.{apart_gap, apart_none}
+use Rattle.qs_recv.proofs.RingLaws.{missing_gap, missing_zero, run_behind}
 use Rattle.qs_recv.proofs.ring_assembly.fill_apart.Goals as goal
 
 pub loop-at-init : goal.loop-at-init

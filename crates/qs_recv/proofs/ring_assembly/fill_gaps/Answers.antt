@@ -1,39 +1,7 @@
-use Rattle.std.proofs.Common.{◌≡◌, ◌∙◌, ◌+◌, ◌-◌, sym, ap, arith, length, refl}
-use Rattle.qs_recv.specs.Ring.{missing_count}
-use Rattle.qs_recv.proofs.RingCount.{missing_all, missing_gap, missing_zero, run_behind}
-use Rattle.qs_recv.proofs.RingPlaces.{filled_none, filled_gap}
-use Rattle.qs_recv.proofs.WrittenLaws.{filled_more}
+use Rattle.std.proofs.Common.{◌∙◌, ◌+◌, ◌-◌, ap, arith, length}
+use Rattle.qs_recv.proofs.RingLaws.{missing_gap, run_behind}
+use Rattle.qs_recv.proofs.RingTurned.{filled_gap, filled_more}
 use Rattle.qs_recv.proofs.ring_assembly.fill_gaps.Goals as goal
-
-pub returns-then-stop-end-clause-count : goal.returns-then-stop-end-clause-count
-returns-then-stop-end-clause-count c =
-    let end = c.args.offset + length c.args.bytes.now in
-    sym (missing_all c.args.received.now c.args.first (end - c.args.first) (λ q low high. c.requires.missing q low (omega (arith, c.requires.some, c.requires.ends, c.if-stop-end.true))))
-
-pub returns-then-stop-end-clause-there : goal.returns-then-stop-end-clause-there
-returns-then-stop-end-clause-there c =
-    λ q low high. filled_more c.args.received.now c.args.first c.args.first c.args.stop c.args.stop c.args.offset c.args.bytes.now c.args.ring.now c.write.new.self (λ k from to. absurd (omega (arith, from, to))) c.write.ensures.kept c.write.ensures.there
-    c.requires.begins (omega (arith, c.requires.some)) c.requires.ends (λ k from to. absurd (omega (arith, from, to))) q low (omega (arith, high, c.if-stop-end.true))
-
-pub returns-clause-there : goal.returns-clause-there
-returns-clause-there c = λ q low high. c.loop-at.invariant.there q low (omega (arith, high, c.loop-at-test.false))
-
-pub loop-at-init : goal.loop-at-init
-loop-at-init c =
-    let none : c.args.first - c.args.first ≡ 0 = omega arith in
-    record {
-      begins = omega arith;
-      ends = omega (arith, c.requires.some, c.requires.ends);
-      some = λ _. c.requires.some;
-      within = c.requires.ends;
-      missing = c.requires.missing;
-      counted = sym (ap (missing_count c.args.received.now c.args.first) none ∙ missing_zero c.args.received.now c.args.first);
-      small = omega arith;
-      same_len = refl;
-      kept = λ q is. is;
-      there = λ q low high. absurd (omega (arith, low, high));
-      filled = filled_none c.args.received.now c.args.first c.args.offset c.args.bytes.now c.args.ring.now.0;
-    }
 
 pub loop-at-preserved : goal.loop-at-preserved
 loop-at-preserved c =

@@ -1,23 +1,15 @@
-use Rattle.std.proofs.Common.{◌≡◌, ◌∙◌, ◌+◌, ◌<◌, ◌↔◌, ℕ, IsTrue, length, slice_index, sym, refl, arith}
+use Rattle.std.proofs.Common.{◌≡◌, ◌∙◌, ◌+◌, ◌<◌, ◌↔◌, ℕ, IsTrue, length, slice_index, sym, refl, arith, rules}
 use Rattle.std.proofs.lemmas.Bool.{both_ways}
 use Rattle.qs_recv.specs.Ring.{byte_of}
-use Rattle.qs_recv.proofs.SameLaws.{part}
-use Rattle.qs_recv.proofs.SameRing.{run_more, run_there, there_far, there_near}
-use Rattle.qs_recv.proofs.ring_assembly.is_kept.Goals.{Joined-from-near, then-from-near, else-from-near}
+use Rattle.qs_recv.proofs.RingLaws.{part}
+use Rattle.qs_recv.proofs.RingApart.{run_more, run_there, there_far, there_near}
+use Rattle.qs_recv.proofs.ring_assembly.is_kept.Goals.{Joined-from-near}
 use Rattle.qs_recv.proofs.ring_assembly.is_kept.Goals as goal
 
 -- a run is there where its bytes are
 there : (c : Joined-from-near) → (let from = c.next_run-from.result.0 in let run = part c.args.offset c.args.bytes.now from c.next_run-from.result.1 in
     IsTrue c.if-from-near.there ↔ ((k : ℕ) → k < length run → slice_index run k ≡ byte_of c.args.ring.now.0 c.args.near c.args.apart.now.pages (from + k)))
-there c =
-    let bytes = c.args.bytes.now in
-    let from = c.next_run-from.result.0 in
-    let to = c.next_run-from.result.1 in
-    let begun = c.loop-at.invariant.begins in
-    elim c.if-from-near.branch [
-      | then-from-near w ↦ rw w.there-is (there_near c.args.received.now c.args.ring.now.0 bytes c.args.apart.now.pages c.args.start c.args.near c.args.offset (c.args.offset + length bytes) c.loop-at.at from to w.are_at-there.result c.requires.begins (omega arith) begun c.requires.missing w.if-from-near.true c.next_run-from.ensures w.are_at-there.ensures)
-      | else-from-near w ↦ rw w.there-is (there_far c.args.ring.now.0 (part c.args.offset bytes from to) c.args.apart.now.pages c.args.near from w.are_at-there-else-from-near.result (omega (arith, w.if-from-near.false)) w.are_at-there-else-from-near.ensures)
-    ]
+there c = search (rules, there_near, there_far, part)
 
 pub loop-at-preserved : goal.loop-at-preserved
 loop-at-preserved c =

@@ -1,4 +1,4 @@
-use Rattle.qs_recv.proofs.SoundLaws.{covered_is}
+use Rattle.qs_recv.proofs.LawfulLaws.{covered_is}
 use Rattle.qs_recv.proofs.live.LiveHalf.is_whole.Goals as goal
 
 pub returns-then-self : goal.returns-then-self

@@ -1,9 +1,8 @@
 use Rattle.std.proofs.Common.{◌∙◌, ◌||◌, is_some, ap, sym, arith, length}
 use Rattle.std.proofs.lemmas.Bool.{both_ways}
 use Rattle.qs_recv.specs.Rest.{given}
-use Rattle.qs_recv.proofs.RestLaws.{given_some}
-use Rattle.qs_recv.proofs.LetGoLaws.{let_go_ended, let_go_read, all_read, read_all}
-use Rattle.qs_recv.proofs.SoundLaws.{sound_front, sound_told, small_front}
+use Rattle.qs_recv.proofs.RestLaws.{given_some, let_go_ended, let_go_read, all_read, read_all}
+use Rattle.qs_recv.proofs.LawfulLaws.{sound_front, sound_told, small_front}
 use Rattle.qs_recv.proofs.live.LiveHalf.read.Goals as goal
 
 pub overflow_add-self : goal.overflow_add-self

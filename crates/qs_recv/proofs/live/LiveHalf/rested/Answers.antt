@@ -10,10 +10,3 @@ invariant_of-result g c =
     (subst (λ l. IsAtRest l s.read_count s.received_end)
     (sym (rested_is _ s.windows.widest s.read_count s.received_end _ done (rw c.received.ensures at (c.covers.ensures.0 c.if-not-covers.false)) c.self.invariant.0 c.self.invariant.1))
     (done_at_rest _ s.windows.widest s.read_count s.received_end _ done c.self.invariant.0 c.self.invariant.1))
-
-pub returns : goal.returns
-returns g c =
-    let s = c.self.inside in
-    let done = rw (← c.self.view_is) at (sym c.is_done.ensures ∙ c.if-not-is_done.false) in
-    rw (← c.self.view_is)
-    (rested_is _ s.windows.widest s.read_count s.received_end _ done (rw c.received.ensures at (c.covers.ensures.0 c.if-not-covers.false)) c.self.invariant.0 c.self.invariant.1)

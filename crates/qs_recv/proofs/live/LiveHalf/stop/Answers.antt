@@ -1,6 +1,6 @@
 use Rattle.std.proofs.Common.{refl}
-use Rattle.qs_recv.proofs.LetGoLaws.{let_go_gone}
-use Rattle.qs_recv.proofs.SoundLaws.{sound_stop}
+use Rattle.qs_recv.proofs.RestLaws.{let_go_gone}
+use Rattle.qs_recv.proofs.LawfulLaws.{sound_stop}
 use Rattle.qs_recv.proofs.live.LiveHalf.stop.Goals as goal
 
 pub invariant_of-self : goal.invariant_of-self

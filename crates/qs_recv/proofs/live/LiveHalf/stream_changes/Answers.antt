@@ -1,8 +1,7 @@
 use Rattle.std.proofs.Common.{◌≡◌, ◌+◌, ◌∙◌, ◌⊎◌, true, false, is_some, inl, inr}
 use Rattle.qs_recv.specs.Rest.{given}
-use Rattle.qs_recv.proofs.ChangesLaws.{changed_by}
+use Rattle.qs_recv.proofs.LawfulLaws.{changed_by, covered_is}
 use Rattle.qs_recv.proofs.RestLaws.{given_some}
-use Rattle.qs_recv.proofs.SoundLaws.{covered_is}
 use Rattle.qs_recv.proofs.live.LiveHalf.stream_changes.Goals as goal
 use Rattle.qs_recv.proofs.live.LiveHalf.stream_changes.Goals.{else-fin-via-then-fin+else-not-self, else-fin-via-else-fin}
 

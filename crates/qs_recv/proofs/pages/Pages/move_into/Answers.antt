@@ -2,8 +2,8 @@ use Rattle.std.proofs.Common.{◌≡◌, ◌∙◌, ◌/◌, ◌%◌, ap, sym, r
 use Rattle.std.proofs.lemmas.Bool.{both_ways, cases_lt}
 use Rattle.std.specs.Ordering.{nat_cmp}
 use Rattle.std.specs.BTreeMap as tree
-use Rattle.qs_recv.proofs.PageLaws.{all_moved, left_next, left_there, piece_moved, piece_passed}
-use Rattle.qs_recv.proofs.WrittenLaws.{piece_there}
+use Rattle.qs_recv.proofs.RingApart.{all_moved, left_next, left_there, piece_moved, piece_passed}
+use Rattle.qs_recv.proofs.RingTurned.{piece_there}
 use Rattle.qs_recv.proofs.pages.Pages.move_into.Goals.{in-Some, in-None}
 use Rattle.qs_recv.proofs.pages.Pages.move_into.Goals as goal
 
@@ -60,6 +60,3 @@ returns-clause-moved c =
     let inv = c.loop-number.invariant in
     let old = c.args.ring.now.0 in
     λ base q low fits at high. all_moved c.args.self.now.pages c.args.from c.args.to c.loop-number.number q (slice_index c.loop-number.ring.0 (q % length old)) (slice_index old (q % length old)) (omega (arith, c.loop-number-test.false)) high (inv.moved base q low fits at high)
-
-pub returns-clause-there : goal.returns-clause-there
-returns-clause-there c = λ q far below had. c.loop-number.invariant.there q far (omega (arith, below, c.loop-number-test.false)) below had

@@ -3,7 +3,7 @@ use Rattle.std.proofs.lemmas.Bool.{both_ways}
 use Rattle.qs_recv.proofs.RingLaws.{vec_written}
 use Rattle.std.specs.Option.{is_some, option_copied_mut}
 use Rattle.std.specs.Vec.{with_items}
-use Rattle.qs_recv.proofs.PageLaws.{piece_put, piece_stays, piece_whole}
+use Rattle.qs_recv.proofs.RingApart.{piece_put, piece_stays, piece_whole}
 use Rattle.qs_recv.proofs.pages.Pages.write.Goals.{in-Some, in-None}
 use Rattle.qs_recv.proofs.pages.Pages.write.Goals as goal
 

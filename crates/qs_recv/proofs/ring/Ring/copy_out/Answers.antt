@@ -13,30 +13,6 @@ returns-then-place-count-clause-out c =
     (out_at_once c.args.at s.turn s.size c.place_of-place.result (length c.args.into.now) _ s.bytes.items c.copy_from_slice.new.self (omega (arith, size, c.requires.fits, c.if-count-eq0.false)) i.turned (omega (arith, within)) c.place_of-place.ensures
     (omega (arith, c.if-place-count.true)) (omega arith) (rw c.deref.ensures.value at c.copy_from_slice.ensures.after))
 
-pub write_at-requires : goal.write_at-requires
-write_at-requires c =
-    let s = c.self.inside in
-    let i = c.self.invariant in
-    let within = i.within in
-    let size = rw (ap (λ (x : RingBytes). x.0) c.self.view_is) at (length_places s.turn s.size s.bytes.items i.turned (omega (arith, within))) in
-    let parts = length_parts s.size c.place_of-place.result (length c.args.into.now) c.fill.new.bytes.items c.pieces.result.0.now c.pieces.result.1.now (omega (arith, size, c.requires.fits)) (omega (arith, c.fill.ensures.reaches)) (rw c.deref-2.ensures.value at c.pieces.ensures) in
-    omega (arith, parts)
-
-pub write_at-requires-2 : goal.write_at-requires-2
-write_at-requires-2 c =
-    let s = c.self.inside in
-    let i = c.self.invariant in
-    let within = i.within in
-    let size = rw (ap (λ (x : RingBytes). x.0) c.self.view_is) at (length_places s.turn s.size s.bytes.items i.turned (omega (arith, within))) in
-    let parts = length_parts s.size c.place_of-place.result (length c.args.into.now) c.fill.new.bytes.items c.pieces.result.0.now c.pieces.result.1.now (omega (arith, size, c.requires.fits)) (omega (arith, c.fill.ensures.reaches)) (rw c.deref-2.ensures.value at c.pieces.ensures) in
-    omega (arith, parts, c.write_at.ensures.same_len)
-
-pub returns-clause-same : goal.returns-clause-same
-returns-clause-same c =
-    let s = c.self.inside in
-    let within = c.self.invariant.within in
-    same_places s.turn s.size s.bytes.items c.fill.new.bytes.items (omega (arith, within)) (omega (arith, c.fill.ensures.within)) c.fill.ensures.same ∙ ap (λ (x : RingBytes). x.0) c.self.view_is
-
 pub returns-clause-out : goal.returns-clause-out
 returns-clause-out c =
     let s = c.self.inside in

@@ -1,8 +1,7 @@
 use Rattle.std.proofs.Common.{ap, arith, vec_len}
 use Rattle.qs_recv.specs.Ring.{RingBytes}
-use Rattle.qs_recv.proofs.PeekLaws.{shown_at}
-use Rattle.qs_recv.proofs.RingTurned.{length_places}
-use Rattle.qs_recv.proofs.WrittenLaws.{reached}
+use Rattle.qs_recv.proofs.RingApart.{shown_at}
+use Rattle.qs_recv.proofs.RingTurned.{length_places, reached}
 use Rattle.qs_recv.proofs.ring.Ring.front.Goals as goal
 
 pub pieces-requires-clause-reaches : goal.pieces-requires-clause-reaches

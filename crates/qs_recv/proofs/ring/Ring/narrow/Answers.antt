@@ -1,7 +1,6 @@
 use Rattle.std.proofs.Common.{◌∙◌, ◌≡◌, ◌-◌, ap, subst, arith, length, vec_len}
 use Rattle.qs_recv.specs.Ring.{RingBytes, IsMoved, places_of}
-use Rattle.qs_recv.proofs.RingTurned.{begun, length_around, length_places, same_places}
-use Rattle.qs_recv.proofs.WrittenLaws.{begun_written}
+use Rattle.qs_recv.proofs.RingTurned.{begun, length_around, length_places, same_places, begun_written}
 use Rattle.qs_recv.proofs.ring.Ring.narrow.Goals as goal
 
 pub returns-clause-moved : goal.returns-clause-moved

@@ -1,14 +1,7 @@
 use Rattle.std.proofs.Common.{◌∙◌, ◌≡◌, ◌-◌, ap, subst, arith, length, vec_len}
 use Rattle.qs_recv.specs.Ring.{RingBytes, IsMoved, places_of}
-use Rattle.qs_recv.proofs.RingTurned.{begun, length_around, length_places, same_places}
-use Rattle.qs_recv.proofs.WrittenLaws.{begun_written}
+use Rattle.qs_recv.proofs.RingTurned.{begun, length_around, length_places, same_places, begun_written}
 use Rattle.qs_recv.proofs.ring.Ring.resized.Goals as goal
-
-pub returns-clause-same : goal.returns-clause-same
-returns-clause-same c =
-    let s = c.self.inside in
-    let within = c.self.invariant.within in
-    same_places s.turn s.size s.bytes.items c.fill.new.bytes.items (omega (arith, within)) (omega (arith, c.fill.ensures.within)) c.fill.ensures.same ∙ ap (λ (x : RingBytes). x.0) c.self.view_is
 
 pub returns-clause-moved : goal.returns-clause-moved
 returns-clause-moved c =

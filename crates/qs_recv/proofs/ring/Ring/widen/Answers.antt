@@ -1,7 +1,6 @@
-use Rattle.std.proofs.Common.{ap, arith, length, subst, sym, vec_len}
-use Rattle.qs_recv.specs.Ring.{IsThere, RingBytes}
-use Rattle.qs_recv.proofs.RingTurned.{length_places, stayed}
-use Rattle.qs_recv.proofs.WrittenLaws.{stayed_written}
+use Rattle.std.proofs.Common.{ap, arith, length, vec_len, subst, sym}
+use Rattle.qs_recv.specs.Ring.{RingBytes, IsThere}
+use Rattle.qs_recv.proofs.RingTurned.{length_places, stayed, stayed_written}
 use Rattle.qs_recv.proofs.ring.Ring.widen.Goals as goal
 
 pub returns-clause-moved : goal.returns-clause-moved

@@ -1,7 +1,6 @@
-use Rattle.std.proofs.Common.{ap, ◌+◌, ◌-◌, arith, length, refl, vec_len}
+use Rattle.std.proofs.Common.{ap, ◌-◌, arith, length, refl, vec_len, rules}
 use Rattle.qs_recv.specs.Ring.{RingBytes}
-use Rattle.qs_recv.proofs.RingTurned.{length_places, write_once, write_twice}
-use Rattle.qs_recv.proofs.WrittenLaws.{all_written, once_written, stay_written}
+use Rattle.qs_recv.proofs.RingTurned.{length_places, write_once, write_twice, all_written, once_written, stay_written}
 use Rattle.qs_recv.proofs.ring.Ring.write.Goals as goal
 
 pub returns-then-bytes-room-clause-written : goal.returns-then-bytes-room-clause-written
@@ -31,14 +30,7 @@ returns-else-bytes-room-clause-written c =
     c.write_over-else-bytes-room.ensures.written c.write_over-else-bytes-room-2.ensures.written)
 
 pub returns-then-bytes-room-clause-kept : goal.returns-then-bytes-room-clause-kept
-returns-then-bytes-room-clause-kept c =
-    let s = c.self.inside in
-    let i = c.self.invariant in
-    let within = i.within in
-    let size = rw (ap (λ (x : RingBytes). x.0) c.self.view_is) at (length_places s.turn s.size s.bytes.items i.turned (omega (arith, within))) in
-    let len = c.write_over.ensures.len in
-    rw (← c.self.view_is)
-    (stay_written s.turn s.size (vec_len s.bytes) (vec_len c.write_over.new.into) s.bytes.items c.write_over.new.into.items i.turned (omega (arith, within)) (omega (arith, within, len, c.if-bytes-room.true, c.requires.fits, size)) (omega (arith, len)))
+returns-then-bytes-room-clause-kept c = rw (← c.self.view_is) (search (rules, length_places, stay_written))
 
 pub returns-then-bytes-room-clause-there : goal.returns-then-bytes-room-clause-there
 returns-then-bytes-room-clause-there c =
@@ -51,28 +43,7 @@ returns-then-bytes-room-clause-there c =
     (omega (arith, within, len, c.if-bytes-room.true, c.requires.fits, size)) c.place_of-place.ensures (omega (arith, c.if-bytes-room.true)) (omega (arith, len))
 
 pub returns-else-bytes-room-clause-kept : goal.returns-else-bytes-room-clause-kept
-returns-else-bytes-room-clause-kept c =
-    let s = c.self.inside in
-    let i = c.self.invariant in
-    let within = i.within in
-    let size = rw (ap (λ (x : RingBytes). x.0) c.self.view_is) at (length_places s.turn s.size s.bytes.items i.turned (omega (arith, within))) in
-    let front_len = c.split_at.ensures.front_len in
-    let back_len = c.split_at.ensures.back_len in
-    let one = c.write_over-else-bytes-room.ensures.len in
-    let two = c.write_over-else-bytes-room-2.ensures.len in
-    rw (← c.self.view_is)
-    (stay_written s.turn s.size (vec_len s.bytes) (vec_len c.write_over-else-bytes-room-2.new.into) s.bytes.items c.write_over-else-bytes-room-2.new.into.items i.turned (omega (arith, within))
-    (omega (arith, within, one, two, front_len, back_len, c.requires.fits, size)) (omega (arith, one, two)))
+returns-else-bytes-room-clause-kept c = rw (← c.self.view_is) (search (rules, length_places, stay_written))
 
 pub returns-else-bytes-room-clause-there : goal.returns-else-bytes-room-clause-there
-returns-else-bytes-room-clause-there c =
-    let s = c.self.inside in
-    let i = c.self.invariant in
-    let within = i.within in
-    let size = rw (ap (λ (x : RingBytes). x.0) c.self.view_is) at (length_places s.turn s.size s.bytes.items i.turned (omega (arith, within))) in
-    let front_len = c.split_at.ensures.front_len in
-    let back_len = c.split_at.ensures.back_len in
-    let one = c.write_over-else-bytes-room.ensures.len in
-    let two = c.write_over-else-bytes-room-2.ensures.len in
-    all_written c.args.at (c.args.at + length c.args.bytes.now) s.turn s.size (vec_len c.write_over-else-bytes-room-2.new.into) c.write_over-else-bytes-room-2.new.into.items (omega (arith, size, c.requires.some)) i.turned
-    (omega (arith, within, one, two, front_len, back_len, c.requires.fits, size)) (omega (arith, one, two, front_len))
+returns-else-bytes-room-clause-there c = search (rules, length_places, all_written)

@@ -1,10 +1,11 @@
-use Rattle.std.proofs.Common.{◌≡◌, ◌≤◌, ◌+◌, ◌-◌, ◌*◌, ◌/◌, ◌&&◌, ℕ, nat_lt, refl, arith, true, false}
+use Rattle.std.proofs.Common.{◌≡◌, ◌≤◌, ◌+◌, ◌-◌, ◌*◌, ◌/◌, ◌&&◌, ℕ, nat_lt, refl, arith, true, false, rules}
 use Rattle.std.proofs.lemmas.Bool.{both_ways}
 use Rattle.std.specs.FinSet as set
+use Rattle.std.proofs.lemmas.Bool.Decides.{nat_tests}
 use Rattle.qs_recv.specs.Ring.{IsApart, byte_of}
 use Rattle.qs_recv.proofs.RingApart.{IsDrawn, apart_drawn, drawn_last, drawn_low, drawn_same, end_within, whole_less}
 use Rattle.qs_recv.proofs.RingLaws.{same_bytes, same_ring}
-use Rattle.qs_recv.proofs.WrittenLaws.{came_drawn}
+use Rattle.qs_recv.proofs.RingTurned.{came_drawn}
 use Rattle.qs_recv.proofs.ring_assembly.RingAssembly.draw.Goals.{After-is_empty, After-move_into}
 use Rattle.qs_recv.proofs.ring_assembly.RingAssembly.draw.Goals as goal
 
@@ -15,28 +16,16 @@ apart : (c : After-is_empty) → IsApart c.self.inside.ring.0 c.self.inside.apar
 apart c = (rw (on c) at c.self.invariant.1).apart refl
 
 pub gap_past-next-requires-clause-small : goal.gap_past-next-requires-clause-small
-gap_past-next-requires-clause-small c = (apart (goal.at.gap_past-next-requires-clause-small c).After-is_empty).small
+gap_past-next-requires-clause-small c = grind (arith, nat_tests, apart)
 
 pub gap_past-next-requires-clause-at : goal.gap_past-next-requires-clause-at
-gap_past-next-requires-clause-at c =
-    let a = apart (goal.at.gap_past-next-requires-clause-at c).After-is_empty in
-    let small = a.small in
-    let before = a.before in
-    let ends = a.ends in
-    omega (arith, small, before, ends, c.max.ensures, c.requires.in_range)
+gap_past-next-requires-clause-at c = grind (arith, nat_tests, apart)
 
 pub reach-requires-clause-fits : goal.reach-requires-clause-fits
-reach-requires-clause-fits c =
-    let s = c.self.inside in
-    let h = (goal.at.reach-requires-clause-fits c).After-is_empty in
-    let within = end_within s.received (byte_of s.ring.0 s.near s.apart.pages) s.window s.read_count s.stored (rw (on h) at c.self.invariant.0) in
-    let ends = (apart h).ends in
-    omega (arith, within, ends, c.gap_past-next.ensures.within)
+reach-requires-clause-fits c = grind (arith, nat_tests, end_within, apart, on)
 
 pub move_into-requires-clause-small : goal.move_into-requires-clause-small
-move_into-requires-clause-small c =
-    let small = (apart (goal.at.move_into-requires-clause-small c).After-is_empty).small in
-    omega (arith, small, c.gap_past-next.ensures.within)
+move_into-requires-clause-small c = grind (arith, nat_tests, apart)
 
 -- Pages were moved into the ring
 
@@ -46,22 +35,7 @@ Drawn c =
     IsDrawn s.received s.read_count s.near s.end c.gap_past-next.result c.args.end s.ring.0 c.reach.new.ring.0 c.move_into.new.ring.0 s.apart.pages c.move_into.new.self.pages
 
 drawn : (c : After-move_into) → Drawn c
-drawn c =
-    let gap = c.gap_past-next.ensures in
-    let reach = c.in_ok-reach.ensures.ok in
-    record {
-      apart = (rw (rw (← c.self.view_is) at c.requires.on) at c.self.invariant.1).apart refl;
-      within = gap.within;
-      past = λ h. (let p = gap.past h in omega (arith, p, c.max.ensures));
-      whole = gap.whole;
-      none = gap.none;
-      room = reach.reaches;
-      more = reach.more;
-      kept = reach.moved;
-      same_len = c.move_into.ensures.same_len;
-      left = c.move_into.ensures.left;
-      moved = c.move_into.ensures.moved;
-    }
+drawn c = search (rules, apart, on)
 
 same : (c : After-move_into) (q : ℕ) → c.self.inside.read_count ≤ q → set.contains c.self.inside.received q ≡ true → byte_of c.move_into.new.ring.0 c.gap_past-next.result c.move_into.new.self.pages q ≡ byte_of c.self.inside.ring.0 c.self.inside.near c.self.inside.apart.pages q
 same c q low came = drawn_same _ _ _ _ _ _ q _ _ _ _ _ (drawn c) low came

@@ -1,10 +1,10 @@
-use Rattle.std.proofs.Common.{ℕ, ◌+◌, ◌-◌, ◌≤◌, ◌≡◌, arith, refl, true, false}
+use Rattle.std.proofs.Common.{ℕ, ◌+◌, ◌-◌, ◌≤◌, ◌≡◌, arith, refl, true, false, rules}
 use Rattle.std.specs.FinSet as set
 use Rattle.qs_ranges.specs.Numbers.{ContainsRange}
 use Rattle.qs_recv.specs.Ring.{IsApart, byte_of}
 use Rattle.qs_recv.proofs.RingApart.{next_near, ring_moved, sized_taken}
 use Rattle.qs_recv.proofs.RingLaws.{next_stored, ring_advanced, ring_read, same_bytes, same_ring}
-use Rattle.qs_recv.proofs.WrittenLaws.{came_moved}
+use Rattle.qs_recv.proofs.RingTurned.{came_moved}
 use Rattle.qs_recv.proofs.ring_assembly.RingAssembly.pass.Goals.{After-self, After-shed}
 use Rattle.qs_recv.proofs.ring_assembly.RingAssembly.pass.Goals as goal
 
@@ -20,27 +20,14 @@ apart c = (rw (on c) at c.self.invariant.1).apart refl
 near : (c : After-self) → c.self.inside.read_count + c.args.count ≤ c.self.inside.near
 near c = next_near _ _ _ _ _ _ _ (apart c) (came c)
 
-pub overflow_add-self : goal.overflow_add-self
-overflow_add-self c =
-    let a = apart c in
-    let before = a.before in
-    let small = a.small in
-    let ends = a.ends in
-    omega (arith, near c, before, small, ends)
-
 pub overflow_sub-self : goal.overflow_sub-self
 overflow_sub-self c =
     let h = (goal.at.overflow_sub-self c).After-self in
     next_stored _ _ _ _ _ _ (rw (on h) at c.self.invariant.0) (came h)
 
-pub overflow_sub-span : goal.overflow_sub-span
-overflow_sub-span c = near (goal.at.overflow_sub-span c).After-self
-
 same : (c : After-shed) (q : ℕ) → c.self.inside.read_count + c.args.count ≤ q → set.contains c.self.inside.received q ≡ true
     → byte_of c.shed.new.ring.0 c.self.inside.near c.self.inside.apart.pages q ≡ byte_of c.self.inside.ring.0 c.self.inside.near c.self.inside.apart.pages q
-same c q at there =
-    let s = c.self.inside in
-    ring_moved s.ring.0 c.shed.new.ring.0 s.apart.pages (s.read_count + c.args.count) s.near (s.near - (s.read_count + c.args.count)) q refl c.shed.ensures.moved at
+same c q at there = search (rules, ring_moved, apart, near)
 
 pub invariant_of-self : goal.invariant_of-self
 invariant_of-self c =

@@ -1,11 +1,10 @@
-use Rattle.std.proofs.Common.{◌≡◌, ◌≤◌, ◌+◌, ◌*◌, ◌&&◌, ℕ, nat_le, nat_lt, refl, arith, length, true, false}
+use Rattle.std.proofs.Common.{◌≡◌, ◌≤◌, ◌+◌, ◌*◌, ◌&&◌, ℕ, nat_le, nat_lt, refl, arith, length, true, false, rules}
 use Rattle.std.proofs.lemmas.Bool.{both_ways}
 use Rattle.std.specs.FinSet as set
 use Rattle.qs_recv.specs.Ring.{byte_of}
 use Rattle.qs_recv.proofs.RingApart.{IsPutFar, apart_far, apart_refused, put_far, refused_far, whole_less}
-use Rattle.qs_recv.proofs.RingCount.{least_of}
-use Rattle.qs_recv.proofs.RingLaws.{put_fits, put_ring, ring_put, same_bytes, same_ring}
-use Rattle.qs_recv.proofs.WrittenLaws.{came_far}
+use Rattle.qs_recv.proofs.RingLaws.{least_of, put_fits, put_ring, ring_put, same_bytes, same_ring}
+use Rattle.qs_recv.proofs.RingTurned.{came_far}
 use Rattle.qs_recv.proofs.ring_assembly.RingAssembly.put_apart.Goals.{After-store_apart}
 use Rattle.qs_recv.proofs.ring_assembly.RingAssembly.put_apart.Goals as goal
 
@@ -20,19 +19,7 @@ on : (c : After-store_apart) → c.self.inside.discarding ≡ false
 on c = (rw (← c.self.view_is) at c.requires).on
 
 far : (c : After-store_apart) → Far c
-far c =
-    let req = rw (← c.self.view_is) at c.requires in
-    record {
-      was = rw (on c) at c.self.invariant.0;
-      apart = (rw (on c) at c.self.invariant.1).apart refl;
-      least = least_of _ _ _ _ _ req.gap req.some;
-      some = req.some;
-      within = req.in_window;
-      range = req.in_range;
-      far = req.far;
-      stay = c.store_apart.ensures.stay;
-      only = c.store_apart.ensures.only;
-    }
+far c = search (rules, on, least_of)
 
 -- The offsets are noted
 

@@ -3,9 +3,8 @@ use Rattle.std.proofs.lemmas.Bool.{both_ways}
 use Rattle.std.specs.FinSet as set
 use Rattle.qs_recv.specs.Ring.{CameWritten, byte_of}
 use Rattle.qs_recv.proofs.RingApart.{IsPutNear, apart_near, apart_taken, begun_anywhere, put_near, refused_near, ring_moved}
-use Rattle.qs_recv.proofs.RingCount.{least_of}
-use Rattle.qs_recv.proofs.RingLaws.{put_fits, put_ring, ring_put, same_bytes, same_ring}
-use Rattle.qs_recv.proofs.WrittenLaws.{came_moved, came_near, came_still, stay_begun}
+use Rattle.qs_recv.proofs.RingLaws.{least_of, put_fits, put_ring, ring_put, same_bytes, same_ring}
+use Rattle.qs_recv.proofs.RingTurned.{came_moved, came_near, came_still, stay_begun}
 use Rattle.qs_recv.proofs.ring_assembly.RingAssembly.put_beyond.Goals.{After-store}
 use Rattle.qs_recv.proofs.ring_assembly.RingAssembly.put_beyond.Goals as goal
 

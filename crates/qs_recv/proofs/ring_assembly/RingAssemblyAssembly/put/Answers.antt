@@ -1,22 +1,18 @@
-use Rattle.std.proofs.Common.{◌≡◌, ◌+◌, max, refl, arith, length, true, false, inr}
+use Rattle.std.proofs.Common.{◌≡◌, ◌+◌, max, refl, arith, length, false, inr}
 use Rattle.std.proofs.lemmas.Bool.{both_ways}
+use Rattle.std.proofs.lemmas.Bool.Decides.{nat_tests}
 use Rattle.qs_recv.specs.Ring.{byte_of}
-use Rattle.qs_recv.proofs.RingApart.{IsPutNear, apart_near, apart_taken, put_near, refused_near}
-use Rattle.qs_recv.proofs.RingCount.{least_of}
-use Rattle.qs_recv.proofs.RingLaws.{put_fits, put_ring, ring_put, same_bytes, same_ring}
+use Rattle.qs_recv.proofs.RingApart.{IsPutNear, apart_near, apart_taken, put_near, refused_near, none_apart, sized_noted}
+use Rattle.qs_recv.proofs.RingLaws.{least_of, put_fits, put_ring, ring_put, same_bytes, same_ring, all_known, gap_news, put_known, ring_noted}
 use Rattle.qs_ranges.specs.Numbers.{covers}
 use Rattle.qs_ranges.proofs.Sets.{end_of-ends}
-use Rattle.qs_recv.proofs.NewsLaws.{on_err, refused_news}
-use Rattle.qs_recv.proofs.PageCount.{none_apart}
-use Rattle.qs_recv.proofs.RingLaws.{all_known, gap_news, put_known, ring_noted}
-use Rattle.qs_recv.proofs.RingApart.{sized_noted}
-use Rattle.qs_recv.proofs.WrittenLaws.{came_near, came_off, came_still}
+use Rattle.qs_recv.proofs.RestLaws.{on_err, refused_news}
+use Rattle.qs_recv.proofs.RingTurned.{came_near, came_off, came_still}
 use Rattle.qs_recv.proofs.ring_assembly.RingAssemblyAssembly.put.Goals.{After-is_empty, After-store}
 use Rattle.qs_recv.proofs.ring_assembly.RingAssemblyAssembly.put.Goals as goal
 
 pub returns-then-offset-end-clause-ok : goal.returns-then-offset-end-clause-ok
-returns-then-offset-end-clause-ok c =
-    put_known c.args.self.now.0 c.args.offset c.args.bytes.now (λ q low high. absurd (omega (arith, c.if-offset-end.true)))
+returns-then-offset-end-clause-ok c = grind (arith, nat_tests, put_known)
 
 pub invariant_of-self : goal.invariant_of-self
 invariant_of-self c =
@@ -28,8 +24,7 @@ invariant_of-self c =
     )
 
 pub returns-then-self-clause-news : goal.returns-then-self-clause-news
-returns-then-self-clause-news c =
-    rw (← c.self.view_is) (refused_news c.insert.result c.self.inside.received c.args.offset (c.args.offset + length c.args.bytes.now) (on_err c.insert.result (omega (arith, c.if-offset-end.false))) c.insert.ensures.touches_none)
+returns-then-self-clause-news c = rw (← c.self.view_is) (grind (arith, nat_tests, refused_news, on_err))
 
 pub first_gap-first-requires : goal.first_gap-first-requires
 first_gap-first-requires c = rw (((rw c.if-self.false at c.self.invariant.1).apart refl).ends) (end_of-ends c.self.inside.received)

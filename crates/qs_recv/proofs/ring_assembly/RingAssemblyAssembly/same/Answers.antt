@@ -3,9 +3,8 @@ use Rattle.std.specs.Ordering.{nat_cmp}
 use Rattle.std.specs.FinMap as map
 use Rattle.qs_ranges.proofs.Sets.{below-end_of}
 use Rattle.qs_recv.specs.Ring.{byte_of}
-use Rattle.qs_recv.proofs.RingApart.{near_missing}
-use Rattle.qs_recv.proofs.SameLaws.{same_none}
-use Rattle.qs_recv.proofs.SameRing.{same_kept}
+use Rattle.qs_recv.proofs.RingLaws.{same_none}
+use Rattle.qs_recv.proofs.RingApart.{same_kept}
 use Rattle.qs_recv.proofs.ring_assembly.RingAssemblyAssembly.same.Goals as goal
 
 pub returns-then-self : goal.returns-then-self
@@ -20,11 +19,6 @@ returns-then-self-start c =
     rw (← c.self.view_is, c.if-self.false)
     (same_kept s.received (byte_of s.ring.0 s.near s.apart.pages) c.args.bytes.now s.window s.read_count s.stored c.max-start.result c.args.offset true (rw c.if-self.false at c.self.invariant.0) c.max-start.ensures
     (λ _ q low high came. (let below = below-end_of s.received q came in absurd (omega (arith, below, ends, low, c.if-self-start.true))), λ _. refl))
-
-pub is_kept-requires-clause-missing : goal.is_kept-requires-clause-missing
-is_kept-requires-clause-missing c =
-    let s = c.self.inside in
-    near_missing s.ring.0 s.apart.pages s.received s.read_count s.near s.end ((rw c.if-self.false at c.self.invariant.1).apart refl)
 
 pub returns : goal.returns
 returns c =
