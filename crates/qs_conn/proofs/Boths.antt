@@ -1,18 +1,16 @@
 -- Words of flags that two rows share, and of flags that one has and another not.
-use Rattle.std.proofs.Common.{◌≡◌, ℕ, zero, suc, ◌+◌, ◌-◌, ◌*◌, ◌^◌, ◌<◌, ◌==◌, ◌&&◌, not, w64, Bool, true, false, List, [], ◌∷◌, length, min, bit_and, refl, sym, ap, ◌∙◌, arith}
+use Rattle.std.proofs.lemmas.Bool.Decides.{nat_tests}
+use Rattle.std.proofs.Common.{◌≡◌, ℕ, suc, ◌+◌, ◌-◌, ◌*◌, ◌^◌, ◌<◌, ◌==◌, ◌&&◌, not, w64, Bool, true, false, List, [], ◌∷◌, length, min, bit_and, refl, sym, ap, ◌∙◌, arith}
 use Rattle.std.specs.Int.{bit_at, bit_not}
-use Rattle.std.proofs.lemmas.Bool.{true≢false}
 use Rattle.std.proofs.lemmas.Nat.Bits.{bit_at_and, bit_at-lt, bit_at_not}
 use Rattle.qs_conn.specs.Marks.{is_marked, both, untold, AreSummed, AreFull}
 use Rattle.qs_conn.specs.Words.{IsWordOf}
 
 no_more : (b : Bool) → (b && false) ≡ false
-no_more true = refl
-no_more false = refl
+no_more b = grind (arith, nat_tests)
 
 not_told : (b : Bool) → b ≡ (b && not false)
-not_told true = refl
-not_told false = refl
+not_told b = grind (arith, nat_tests)
 
 pub both_is : (ms os : List Bool) (i : ℕ) → is_marked (both ms os) i ≡ (is_marked ms i && is_marked os i)
 both_is (m ∷ ms) [] i = sym (no_more (is_marked (m ∷ ms) i))
@@ -34,16 +32,11 @@ untold_len _ _ = omega arith
 
 -- a bit of both
 one_and : (a b c : ℕ) → c ≡ min a b → a < 2 → b < 2 → (c == 1) ≡ ((a == 1) && (b == 1))
-one_and (suc zero) (suc zero) c is lt lt' = let one : c ≡ 1 = omega (arith, is) in ap (λ x. x == 1) one
-one_and (suc zero) (suc (suc b)) c is lt lt' = absurd (omega (arith, lt'))
-one_and (suc (suc a)) b c is lt lt' = absurd (omega (arith, lt))
-one_and _ _ c is _ _ = let none : c ≡ 0 = omega (arith, is) in ap (λ x. x == 1) none
+one_and a b c is lt h = grind (arith, nat_tests)
 
 -- the other bit
 one_not : (a b : ℕ) → b ≡ 1 - a → a < 2 → (b == 1) ≡ not (a == 1)
-one_not zero b is lt = let one : b ≡ 1 = omega (arith, is) in ap (λ x. x == 1) one
-one_not (suc zero) b is lt = let none : b ≡ 0 = omega (arith, is) in ap (λ x. x == 1) none
-one_not (suc (suc a)) b is lt = absurd (omega (arith, lt))
+one_not a b is lt = grind (arith, nat_tests)
 
 pub word_both : (ms os : List Bool) (p a b : ℕ) → IsWordOf ms p a → IsWordOf os p b → IsWordOf (both ms os) p (bit_and a b)
 word_both ms os p a b of_a of_b = record { bits = λ i lt. rw (both_is ms os (p * 64 + i), ← of_a.bits i lt, ← of_b.bits i lt) (one_and _ _ _ (bit_at_and a b i) (bit_at-lt a i) (bit_at-lt b i)) }
@@ -57,35 +50,23 @@ word_untold ms ts p a b of_a of_b fits = record {
 
 -- where a word of these or of those has no flag
 and_left : (a b c : Bool) → (a ≡ false → c ≡ false) → (a && b) ≡ false → (b ≡ false → c ≡ false) → c ≡ false
-and_left true b c ha e hb = hb e
-and_left false b c ha e hb = ha refl
+and_left a b c ha e hb = grind (arith, nat_tests)
 
 pub not_false : (b : Bool) → not b ≡ false → b ≡ true
-not_false true e = refl
-not_false false e = absurd (true≢false e)
+not_false b e = grind (arith, nat_tests)
 
 pub summed_both : (ms os ws vs : List Bool) → AreSummed ms ws → AreSummed os vs → AreSummed (both ms os) (both ws vs)
 summed_both ms os ws vs are be =
     record {
       room = omega (arith, are.room, be.room, both_len ms os, both_len ws vs);
-      none = λ word e i at.
-          both_is ms os i
-          ∙ and_left (is_marked ws word) (is_marked vs word) (is_marked ms i && is_marked os i)
-          (λ none. ap (λ b. b && is_marked os i) (are.none word none i at))
-          (sym (both_is ws vs word) ∙ e)
-          (λ none. ap (λ b. is_marked ms i && b) (be.none word none i at) ∙ no_more (is_marked ms i));
+      none = grind (arith, nat_tests, both_is, and_left);
     }
 
 pub summed_untold : (ms ws ts fs : List Bool) → AreSummed ms ws → AreFull ts fs → AreSummed (untold ms ts) (untold ws fs)
 summed_untold ms ws ts fs are be =
     record {
       room = omega (arith, are.room, untold_len ms ts, untold_len ws fs);
-      none = λ word e i at.
-          untold_is ms ts i
-          ∙ and_left (is_marked ws word) (not (is_marked fs word)) (is_marked ms i && not (is_marked ts i))
-          (λ none. ap (λ b. b && not (is_marked ts i)) (are.none word none i at))
-          (sym (untold_is ws fs word) ∙ e)
-          (λ full. ap (λ b. is_marked ms i && not b) (be.all word (not_false (is_marked fs word) full) i at) ∙ no_more (is_marked ms i));
+      none = grind (arith, nat_tests, untold_is, not_false);
     }
 
 -- no index is left below one where none is marked, nor below one where all were told

@@ -1,65 +1,291 @@
--- What holds of the tables of an end: each change of a part keeps it.
-use Rattle.std.proofs.Common.{if◌then◌else◌, ◌≡◌, ℕ, zero, suc, ◌+◌, ◌-◌, ◌≤◌, ◌^◌, ◌&&◌, Bool, true, false, List, [], length, take, append-nil, Option, None, Some, Ok, is_some, cond, refl, sym, ap, ◌∙◌, subst, arith, not}
+-- A receiving half that changes has no more to tell than before, but where it is stopped or its limit rises.
 use Rattle.std.specs.FinMap as fmap
-use Rattle.std.proofs.lemmas.Bool.{and_parts, true≢false}
+use Rattle.qs_conn.specs.declared.slot.Slot.TheVariants as slots
+use Rattle.std.proofs.lemmas.Bool.Decides.{nat_tests}
+use Rattle.std.proofs.Common.{arith, ◌≡◌, ℕ, ◌+◌, Bool, true, false, List, length, cond, Option, None, Some, refl, sym, ◌∙◌, ◌≤◌, not, ◌&&◌, ◌||◌, is_some, ap, subst, inr, Ok, if◌then◌else◌, ◌-◌, ◌^◌, take, append-nil, ◌/◌, ◌%◌, ◌<◌}
+use Rattle.std.specs.Prelude.{IsOk, max, is_none, ◌==◌}
+use Rattle.std.proofs.lemmas.Bool.{both_ways, false_from_ne_true, cond_both, and_parts, true≢false}
 use Rattle.std.proofs.lemmas.Option.{none-some, same_Some}
-use Rattle.qs_ranges.specs.Numbers.{MAX_VARINT, NumberSet}
-use Rattle.qs_recv.specs.Lane.{RecvLane, after_read, stop, stop_and_discard, new_lane as new_recv_lane, MAX_WINDOW, set_window, taken, limit_with}
-use Rattle.qs_machine.specs.Due.{IsCurrent}
-use Rattle.qs_recv.specs.declared.credit.Share.{Share}
-use Rattle.qs_send.specs.Lane.{SendLane, Sending, new_lane as new_send_lane, answer_of, refusal, write_lane, sent_lane, finish_lane, reset_lane, stop_taken, allow_lane, buffer_lane}
-use Rattle.qs_send.specs.declared.parts.Chunk.{Chunk}
+use Rattle.qs_wire.specs.declared.stream_id.Role.{Role}
+use Rattle.qs_calls.specs.declared.settings.Settings.{Settings}
+use Rattle.qs_recv.specs.Lane.{RecvLane, is_whole as is_recv_whole, check_stream, take_stream, take_reset, after_read, stop, stop_and_discard, is_over as is_read_off, raise, is_whole as recv_whole, new_lane as new_recv_lane, set_window, MAX_WINDOW, taken, limit_with, next_limit}
+use Rattle.qs_recv.specs.Lawful.{IsLawful}
+use Rattle.qs_recv.specs.declared.credit.Share.TheVariants.{Half}
 use Rattle.qs_send.specs.declared.piece.Item.{Item}
+use Rattle.qs_machine.specs.Tables.{Tables, lookup, updated, no_streams, open_to, each, total, table, update}
+use Rattle.qs_machine.specs.Ends.{Present, Records, AckedItems, first_window_by, End, is_uni, is_own, first_window, first_send_limit, opens, opened_by_peer, new_end, recv_lane, send_lane}
+use Rattle.qs_machine.specs.Verdicts.{or_new}
+use Rattle.qs_machine.specs.Standing.{KeepsCredit, HasLawfulLane, IsInCredit, IsWithinCredit}
+use Rattle.qs_machine.proofs.EndedHalves.{whole_stays, reset_stays_ended}
+use Rattle.qs_machine.proofs.LanesAgain.{data_after}
+use Rattle.qs_conn.specs.Untold.{RecvTells, TellsAt, AreTold, SendTells, HasMore, told_by_recv, told_by_send, marked_for}
+use Rattle.qs_conn.proofs.Untolds.{untolds_updated as told_updated, recv_tell, recv_own, send_own, recv_noted, send_noted, recvs_open, sends_open, told_carried, told_edited, told_placed, told_unmarked, told_written, told_sent, told_calm, told_allowed, told_put, told_noted, acked_stays, lost_stays, marks_stay, in_idle, out_idle, still_told, forgotten_told, told_updated as ends_told_updated, told_read as toldends_told_read, told_opened, told_raised, none_told, put_old, each_update, end_put}
+use Rattle.qs_send.specs.declared.piece.Item.TheVariants.{ResetStream, StreamDataBlocked}
+use Rattle.qs_recv.specs.Assembled.{discard, forget}
+use Rattle.qs_recv.specs.declared.credit.Share.{Share}
+use Rattle.qs_send.specs.Lane.{new_lane as new_send_lane, Sending, SendLane, is_whole, unacked_from, answer_of, write_lane, finish_lane, reset_lane, broken_off, stop_taken, reset_refusal, refusal, blocked_lane, sent_lane, acked_lane, reset_acked_lane, allow_lane, buffer_lane}
+use Rattle.qs_send.specs.declared.parts.SendFault.{SendFault}
+use Rattle.qs_send.specs.declared.parts.SendFault.TheVariants.{Finished, WasReset}
+use Rattle.qs_send.specs.declared.parts.Reset.{Reset}
 use Rattle.qs_send.specs.declared.piece.Piece.{Piece}
 use Rattle.qs_send.specs.declared.piece.Piece.TheVariants.{Data, Told}
+use Rattle.qs_calls.specs.declared.settings.Tuning.{Tuning}
+use Rattle.qs_calls.specs.Settings.{are_in_wide_range, MAX_LIFETIME, default_tuning}
+use Rattle.qs_wire.specs.declared.stream_id.Dir.{Dir}
+use Rattle.qs_wire.specs.declared.stream_id.Dir.TheVariants.{Bidi, Uni}
+use Rattle.qs_machine.proofs.Counts.{within_credit}
+use Rattle.qs_machine.specs.Credit.{recv_ended, send_ended, granted_streams, lifetime, count_after}
+use Rattle.qs_machine.specs.Seen.{Seen, Stream, Control}
+use Rattle.qs_machine.specs.Lawful.{frame_put, chunk_of}
+use Rattle.qs_machine.specs.Sums.{or_none}
+use Rattle.qs_machine.specs.Outgoing.{Outgoing, HasSending, first_acked_out, acked_at, IsIdle, with_sends, on_lane, sent_sum, IsBlockedAt, IsCarried, first_piece, first_lost_out, without_piece_out, AreApartIn, item_put_out, chunk_put}
+use Rattle.qs_conn.specs.declared.by_dir.ByDir.{ByDir}
+use Rattle.qs_conn.specs.Ended.{recv_over, send_over, over, is_over, recounted, half_of, AreAllCounted, IsToldOfEnd, CountsFit}
+use Rattle.qs_conn.proofs.MadePackets.{recv_recounted, send_recounted, counted_same, updated_over, recvs_opened, sends_opened, counted_raised, none_counted, nothing_recounted, memory_less, memory_marks}
+use Rattle.qs_ranges.specs.Numbers.{MAX_VARINT, NumberSet}
+use Rattle.qs_machine.specs.Due.{IsCurrent}
+use Rattle.qs_send.specs.declared.parts.Chunk.{Chunk}
 use Rattle.qs_calls.specs.declared.settings.PeerLimits.{PeerLimits}
 use Rattle.qs_calls.specs.declared.closing.Closed.{Closed}
-use Rattle.qs_machine.specs.Tables.{Tables, lookup, update, updated, open_to, total}
-use Rattle.qs_machine.specs.Ends.{End, new_end, first_window_by, Present}
-use Rattle.qs_machine.specs.Lawful.{frame_put}
-use Rattle.qs_machine.specs.Seen.{Seen, Stream, Control}
-use Rattle.qs_machine.specs.Outgoing.{Outgoing, HasSending, IsIdle, with_sends, on_lane, sent_sum, IsBlockedAt, IsCarried, first_piece, first_acked_out, first_lost_out, without_piece_out, AreApartIn, acked_at, item_put_out, chunk_put}
-use Rattle.qs_machine.specs.Standing.{KeepsCredit}
-use Rattle.qs_machine.specs.Sums.{or_none}
 use Rattle.qs_machine.proofs.TablesAfter.{update_back}
 use Rattle.qs_machine.proofs.Taken.{sum_open}
-use Rattle.qs_conn.specs.declared.by_dir.ByDir.{ByDir}
 use Rattle.qs_conn.specs.declared.middle.Core.{Core}
 use Rattle.qs_conn.specs.declared.carried.Carried.{Carried}
 use Rattle.qs_conn.specs.Carried.{AreCarried, HasPlaces, places_to, item_carried, carried_without, recv_limit, limits_by, carried_below}
 use Rattle.qs_conn.specs.OwnCarried.{Kept, AreOwn, own_with, own_left}
 use Rattle.qs_conn.specs.Middle.{IsCore, IsAtRest, IsKept, KeepsStreams, IsFilling, FillsOn, HasMemory, end_of}
-use Rattle.qs_conn.specs.Ended.{AreAllCounted, CountsFit, half_of, is_over, recounted}
 use Rattle.qs_conn.specs.Filling.{end_by, present_of, PutsItem, LeavesRest, LimitsFit, with_window, with_grant}
 use Rattle.qs_conn.specs.Settled.{AreNextWhere}
 use Rattle.qs_conn.specs.Marks.{IsIdle as IsIdleAt}
 use Rattle.qs_conn.specs.Runs.{held_out}
-use Rattle.qs_conn.specs.declared.slot.Slot.TheVariants as slots
-use Rattle.qs_conn.specs.Untold.{AreTold, TellsAt, SendTells, HasMore, told_by_recv, told_by_send, marked_for}
-use Rattle.qs_conn.proofs.Calm.{told_read}
-use Rattle.qs_conn.proofs.Counted.{fit_sends, fit_sent, fit_written, fit_finished, fit_read, fit_stopped, fit_forgotten, fit_opened, put_counted, fit_windowed, ends_as_reset, ends_as_stopped}
 use Rattle.qs_conn.proofs.Flows.{end_chunk}
-use Rattle.qs_conn.proofs.Funded.{sum_lane, reset_sends, stop_sends, sum_piece, sum_put}
+use Rattle.qs_conn.proofs.Stages.{sum_lane, reset_sends, stop_sends, sum_piece, sum_put}
 use Rattle.qs_machine.proofs.CallsSound.{sound_read, sound_stop, sound_forget, sound_window, sound_set, grant_within, keeps_open}
-use Rattle.qs_conn.proofs.Pieces.{put_old}
 use Rattle.qs_machine.proofs.Carried.{carried_more}
-use Rattle.qs_conn.proofs.Untolds.{recv_own, send_own, recv_noted, send_noted, recvs_open, sends_open, told_carried, told_edited, told_placed, told_unmarked, told_written, told_sent, told_calm, told_allowed, told_put, told_noted, acked_stays, lost_stays, marks_stay, in_idle, out_idle}
-use Rattle.qs_conn.proofs.CarriedSteps.{carried_recv, carried_windowed, carried_send, carried_allowed, carried_chunk, carried_put, carried_acked, carried_lost, carried_placed, carried_opened, wide_none, reset_keeps, stop_taken_keeps, stop_keeps, read_keeps}
-use Rattle.qs_conn.proofs.EachItem.{each_item}
-use Rattle.qs_conn.proofs.Owns.{own_risen, own_chunk, own_put, own_present, own_acked, own_lost}
+use Rattle.qs_conn.proofs.Carrieds.{carried_recv, carried_windowed, carried_send, carried_allowed, carried_chunk, carried_put, carried_acked, carried_lost, carried_placed, carried_opened, wide_none, reset_keeps, stop_taken_keeps, stop_keeps, read_keeps, own_risen, own_chunk, own_put, own_present, own_acked, own_lost}
 use Rattle.qs_conn.proofs.Rests.{rest_same, rest_on}
-use Rattle.qs_conn.proofs.Slots.{end_put}
-use Rattle.qs_conn.proofs.Stills.{memory_less, memory_marks}
-use Rattle.std.proofs.lemmas.Bool.Decides.{nat_tests}
-use Rattle.qs_wire.specs.declared.stream_id.Dir.{Dir}
-use Rattle.qs_wire.specs.declared.stream_id.Dir.TheVariants.{Bidi, Uni}
-use Rattle.qs_calls.specs.Settings.{MAX_LIFETIME, are_in_wide_range, default_tuning}
-use Rattle.qs_calls.specs.declared.settings.Settings.{Settings}
 use Rattle.qs_calls.specs.declared.settings.SetFault.TheVariants.{OutOfRange}
 use Rattle.qs_machine.specs.Owner.{first_refusal, refuse_if}
 use Rattle.qs_machine.specs.Setting.{ConnWindow, Grant, is_settable, count_with}
 use Rattle.qs_conn.specs.declared.limits.Limits.{Limits}
-use Rattle.qs_wire.specs.declared.stream_id.Role.{Role}
+use Rattle.qs_machine.proofs.TableEdits.{some_tested}
+use Rattle.qs_machine.proofs.TableLaws.{lookup_same, lookup_each, total_update}
+use Rattle.qs_conn.specs.Plain.{IsPlainLane, IsPlain}
+use Rattle.qs_conn.proofs.Outboxes.{open_stays}
+use Rattle.qs_conn.proofs.LaneEdits.{stream_settled}
+
+-- a half of which less is to be told
+calm : (w n : ℕ) (l k : RecvLane) → k.limit ≡ l.limit → k.stop_code ≡ l.stop_code → (k.final_size ≡ None → l.final_size ≡ None) → (k.reset_code ≡ None → l.reset_code ≡ None) → (is_recv_whole k ≡ false → is_recv_whole l ≡ false) → (i : Item) → RecvTells w n k i → RecvTells w n l i
+calm w n l k limit stop size reset whole = recv_tell (RecvTells w n l) w n k (λ j m (same, is, more, none). (same, is ∙ limit, more, size none)) (λ j code (same, is, goes, part). (same, sym stop ∙ is, reset goes, whole part))
+
+data_calm : (l : RecvLane) (offset : ℕ) (bytes : List ℕ) (fin : Bool) → IsLawful l → IsOk (check_stream l offset (length bytes) fin) → (w n : ℕ) (i : Item) → RecvTells w n (take_stream l offset bytes fin) i → RecvTells w n l i
+data_calm l offset bytes fin lawful ok w n = calm w n l (take_stream l offset bytes fin) refl refl (size fin) (λ is. is) part
+  where
+    size : (b : Bool) → cond {A = Option ℕ} b (Some (offset + length bytes)) l.final_size ≡ None → l.final_size ≡ None
+    size true is = absurd (none-some (offset + length bytes) (sym is))
+    size false is = is
+
+    part : is_recv_whole (take_stream l offset bytes fin) ≡ false → is_recv_whole l ≡ false
+    part is = false_from_ne_true (is_recv_whole l) (λ at. (let after = data_after l offset bytes fin lawful ok in both_ways (is_recv_whole (take_stream l offset bytes fin)) is (whole_stays l (take_stream l offset bytes fin) after.received after.size at)))
+
+reset_calm : (l : RecvLane) (code size w n : ℕ) (i : Item) → RecvTells w n (take_reset l code size) i → RecvTells w n l i
+reset_calm l code size w n i = grind (arith, nat_tests)
+
+read_calm : (l : RecvLane) (room w n : ℕ) (i : Item) → RecvTells w n (after_read l room) i → RecvTells w n l i
+read_calm l room w n = grind (arith, nat_tests)
+
+module _ (r : Role) (s : Settings) (recvs : Tables RecvLane) (m : Records) (a : AckedItems) (marks : Tables Bool) (h : AreTold (TellsAt r s) recvs m a marks) (now : Tables RecvLane) (n : ℕ) where
+  -- bytes came that passed the check
+  pub told_streamed : (p : Present) (g : ℕ) → KeepsCredit r s p recvs g → (offset : ℕ) (bytes : List ℕ) (fin : Bool) → IsOk (check_stream (or_new (lookup recvs n) 0 Half) offset (length bytes) fin) → now ≡ updated recvs n (λ l. take_stream l offset bytes fin) (lookup recvs n) → AreTold (TellsAt r s) now m a marks
+  told_streamed p g k offset bytes fin passed is = grind (arith, nat_tests, told_updated, data_calm)
+
+  pub told_broken : (code size : ℕ) → now ≡ updated recvs n (λ l. take_reset l code size) (lookup recvs n) → AreTold (TellsAt r s) now m a marks
+  told_broken code size is = told_updated (TellsAt r s) recvs m a marks h now n (λ l. take_reset l code size) is (λ l there. reset_calm l code size (first_window_by r s n) n)
+
+  pub told_read : (room : ℕ) → now ≡ updated recvs n (λ l. after_read l room) (lookup recvs n) → AreTold (TellsAt r s) now m a marks
+  told_read room is = told_updated (TellsAt r s) recvs m a marks h now n (λ l. after_read l room) is (λ l there. read_calm l room (first_window_by r s n) n)
+
+-- ---- The counts of the streams that came to their end: each call keeps them right.
+
+-- Changes that end no half
+
+pub sends_same : (role : Role) (recvs : Tables RecvLane) (sends now : Tables SendLane) (n : ℕ) (f : SendLane → SendLane) (e : ByDir ℕ) → AreAllCounted role recvs sends e → now ≡ updated sends n f (lookup sends n)
+    → ((l : SendLane) → lookup sends n ≡ Some l → send_ended (f l) ≡ send_ended l) → AreAllCounted role recvs now e
+sends_same role recvs sends now n f e h after same =
+    counted_same role recvs sends e h recvs now (λ m. ap (over role m (recv_over (lookup recvs m))) (updated_over send_over sends now n f after same m))
+
+pub recvs_same : (role : Role) (recvs now : Tables RecvLane) (sends : Tables SendLane) (n : ℕ) (f : RecvLane → RecvLane) (e : ByDir ℕ) → AreAllCounted role recvs sends e → now ≡ updated recvs n f (lookup recvs n)
+    → ((l : RecvLane) → lookup recvs n ≡ Some l → recv_ended (f l) ≡ recv_ended l) → AreAllCounted role now sends e
+recvs_same role recvs now sends n f e h after same =
+    counted_same role recvs sends e h now sends (λ m. ap (λ b. over role m b (send_over (lookup sends m))) (updated_over recv_over recvs now n f after same m))
+
+-- What holds of an endpoint's counts
+
+pub grants_fit : (s : Settings) → are_in_wide_range s ≡ true → (s.grant_bidi ≤ s.lifetime_bidi) × (s.grant_uni ≤ s.lifetime_uni)
+grants_fit s fits = (grind (arith, nat_tests), grind (arith, nat_tests))
+
+-- a new end
+pub fit_new : (role : Role) (s : Settings) (recvs : Tables RecvLane) (sends : Tables SendLane) → are_in_wide_range s ≡ true → recvs ≡ no_streams → CountsFit role s recvs sends (record { bidi = 0; uni = 0 }) s.grant_bidi s.grant_uni
+fit_new role s recvs sends fits none = (let g = grants_fit s fits in record { counted = none_counted role recvs sends none; told = none_told recvs none; bidi = g.0; uni = g.1 })
+
+-- a half that may be broken off isn't at its end
+open_still : (r : Option Reset) (w f a : Bool) → is_some {T = SendFault} (cond (is_some r) (Some WasReset) (cond w (Some Finished) None)) ≡ false → (a || false) ≡ (a || (is_none r && f && w))
+open_still r w f a is = grind (arith, nat_tests)
+
+-- one that is broken off, or whose peer stops reading
+pub ends_as_reset : (code : ℕ) (l : SendLane) → send_ended (reset_lane l code) ≡ send_ended l
+ends_as_reset code l = cond_both (is_some (reset_refusal l)) l (broken_off l code) (λ (k : SendLane). send_ended k ≡ send_ended l) (λ refused. refl) (λ goes. open_still l.was_reset (is_whole l) l.finished l.reset_acked goes)
+
+pub ends_as_stopped : (answers : Bool) (code : ℕ) (l : SendLane) → send_ended (stop_taken answers l code) ≡ send_ended l
+ends_as_stopped answers code l = grind (arith, nat_tests)
+
+module _ (role : Role) (s : Settings) (recvs : Tables RecvLane) (sends : Tables SendLane) (e : ByDir ℕ) (b u : ℕ) (h : CountsFit role s recvs sends e b u) where
+  pub fit_sends : (now : Tables SendLane) (e' : ByDir ℕ) → AreAllCounted role recvs now e' → CountsFit role s recvs now e' b u
+  fit_sends now e' is = record { counted = is; told = h.told; bidi = h.bidi; uni = h.uni }
+
+  pub fit_recvs : (now_r : Tables RecvLane) (now_s : Tables SendLane) (e' : ByDir ℕ) → AreAllCounted role now_r now_s e' → ((n : ℕ) → IsToldOfEnd (lookup now_r n)) → CountsFit role s now_r now_s e' b u
+  fit_recvs now_r now_s e' is told = record { counted = is; told = told; bidi = h.bidi; uni = h.uni }
+
+  -- a half changes, and its stream is counted anew
+  recounts : (now : Tables RecvLane) (n : ℕ) (f : RecvLane → RecvLane) (e' : ByDir ℕ) (was is : Bool) → now ≡ updated recvs n f (lookup recvs n) → was ≡ is_over role recvs sends n → is ≡ is_over role now sends n → e' ≡ recounted n was is e
+      → ((l : RecvLane) → lookup recvs n ≡ Some l → IsToldOfEnd (Some l) → IsToldOfEnd (Some (f l))) → CountsFit role s now sends e' b u
+  recounts now n f e' was is after before behind to told =
+      fit_recvs now sends e' (recv_recounted role recvs now sends n f e e' was is h.counted after before behind to) (ends_told_updated recvs now n f h.told after told)
+
+  -- a stop
+  pub fit_stopped : (now : Tables RecvLane) (n code : ℕ) → now ≡ updated recvs n (λ l. stop l code) (lookup recvs n) → CountsFit role s now sends e b u
+  fit_stopped now n code is =
+      fit_recvs now sends e (recvs_same role recvs now sends n (λ l. stop l code) e h.counted is (λ l there. cond_both (is_some l.stop_code || is_read_off l) l (off l) (λ (k : RecvLane). recv_ended k ≡ recv_ended l) (λ stays. refl) (λ goes. refl)))
+      (ends_told_updated recvs now n (λ l. stop l code) h.told is (λ l there told. cond_both (is_some l.stop_code || is_read_off l) l (off l) (λ (k : RecvLane). IsToldOfEnd (Some k)) (λ stays. told) (λ goes is. inr refl)))
+    where
+      off : RecvLane → RecvLane
+      off l = record l { arrived = discard l.arrived; stop_code = Some code }
+
+  -- another window
+  pub fit_windowed : (now : Tables RecvLane) (n w : ℕ) → now ≡ updated recvs n (λ l. set_window l w) (lookup recvs n) → CountsFit role s now sends e b u
+  fit_windowed now n w is =
+      fit_recvs now sends e (recvs_same role recvs now sends n (λ l. set_window l w) e h.counted is (λ l there. refl))
+      (ends_told_updated recvs now n (λ l. set_window l w) h.told is (λ l there told. told))
+
+  -- one of a stream that is forgotten
+  pub fit_forgotten : (now : Tables RecvLane) (n code : ℕ) (e' : ByDir ℕ) (was is : Bool) → now ≡ updated recvs n (λ l. stop_and_discard l code) (lookup recvs n) → was ≡ is_over role recvs sends n → is ≡ is_over role now sends n → e' ≡ recounted n was is e
+      → CountsFit role s now sends e' b u
+  fit_forgotten now n code e' was is after before behind to = recounts now n (λ l. stop_and_discard l code) e' was is after before behind to (λ l there told. forgotten_told l code)
+
+  -- a reset came
+  pub fit_broken : (now : Tables RecvLane) (n code size : ℕ) (e' : ByDir ℕ) (was is : Bool) → now ≡ updated recvs n (λ l. take_reset l code size) (lookup recvs n) → was ≡ is_over role recvs sends n → is ≡ is_over role now sends n → e' ≡ recounted n was is e
+      → CountsFit role s now sends e' b u
+  fit_broken now n code size e' was is after before behind to =
+      recounts now n (λ l. take_reset l code size) e' was is after before behind to
+      (λ l there told. still_told l (take_reset l code size) told (cond_both (is_some l.reset_code || recv_whole l) l (broken l) (λ (k : RecvLane). k.reader_done ≡ l.reader_done) (λ stays. refl) (λ goes. refl)) (reset_stays_ended l code size)
+      (λ off. cond_both (is_some l.reset_code || recv_whole l) l (broken l) (λ (k : RecvLane). is_some k.stop_code ≡ true) (λ stays. off) (λ goes. off)))
+    where
+      broken : RecvLane → RecvLane
+      broken l = record l { arrived = forget l.arrived; final_size = Some size; reset_code = Some code }
+
+  module _ (p : Present) (g : ℕ) (k : KeepsCredit role s p recvs g) where
+    lawful_at : (n : ℕ) (l : RecvLane) → lookup recvs n ≡ Some l → IsLawful l
+    lawful_at n l there = (subst (HasLawfulLane role s n) there (k.lanes n)).0
+
+    -- bytes came that passed the check
+    pub fit_streamed : (now : Tables RecvLane) (n offset : ℕ) (bytes : List ℕ) (fin : Bool) (e' : ByDir ℕ) (was is : Bool) → IsOk (check_stream (or_new (lookup recvs n) 0 Half) offset (length bytes) fin)
+        → now ≡ updated recvs n (λ l. take_stream l offset bytes fin) (lookup recvs n) → was ≡ is_over role recvs sends n → is ≡ is_over role now sends n → e' ≡ recounted n was is e → CountsFit role s now sends e' b u
+    fit_streamed now n offset bytes fin e' was is passed after before behind to =
+        recounts now n (λ l. take_stream l offset bytes fin) e' was is after before behind to
+        (λ l there told. still_told l (take_stream l offset bytes fin) told refl
+        (data_after l offset bytes fin (lawful_at n l there) (subst (λ o. IsOk (check_stream (or_new o 0 Half) offset (length bytes) fin)) there passed)).ended (λ off. off))
+
+    -- a stream is read, and counted anew
+    pub fit_read : (now : Tables RecvLane) (n size : ℕ) (e' : ByDir ℕ) (was is : Bool) → now ≡ updated recvs n (λ l. after_read l size) (lookup recvs n) → was ≡ is_over role recvs sends n → is ≡ is_over role now sends n → e' ≡ recounted n was is e
+        → CountsFit role s now sends e' b u
+    fit_read now n size e' was is after before behind to =
+        fit_recvs now sends e' (recv_recounted role recvs now sends n (λ l. after_read l size) e e' was is h.counted after before behind to) (toldends_told_read recvs now n size h.told after (lawful_at n))
+
+  -- a sending half changes, and doesn't come to its end by that
+  pub fit_sent : (now : Tables SendLane) (n : ℕ) (f : SendLane → SendLane) → now ≡ updated sends n f (lookup sends n) → ((l : SendLane) → lookup sends n ≡ Some l → send_ended (f l) ≡ send_ended l) → CountsFit role s recvs now e b u
+  fit_sent now n f is same = fit_sends now e (sends_same role recvs sends now n f e h.counted is same)
+
+  -- bytes are written, of a half that isn't finished
+  pub fit_written : (now : Tables SendLane) (n : ℕ) (bytes : List ℕ) → refusal (or_none (lookup sends n)) ≡ None → now ≡ updated sends n (λ l. write_lane l bytes) (lookup sends n) → CountsFit role s recvs now e b u
+  fit_written now n bytes allowed is =
+      fit_sent now n (λ l. write_lane l bytes) is (λ l there.
+      not_finished l.was_reset l.finished l.reset_acked (is_whole (write_lane l bytes)) (is_whole l) (subst (λ o. refusal (or_none o) ≡ None) there allowed))
+    where
+      not_finished : (r : Option Reset) (f a v w : Bool) → cond (is_some r) (Some WasReset) (cond f (Some Finished) None) ≡ None → (a || (is_none r && f && v)) ≡ (a || (is_none r && f && w))
+      not_finished (Some r) f a v w none = refl
+      not_finished None true a v w none = absurd (none-some Finished (sym none))
+      not_finished None false a v w none = refl
+
+  -- the end is asked for, of a half that isn't finished
+  pub fit_finished : (now : Tables SendLane) (n : ℕ) (o : Outgoing) (half : Sending) → o.sends ≡ sends → HasSending o n half → answer_of (refusal (or_none (lookup sends n))) ≡ Ok tt → now ≡ updated sends n finish_lane (lookup sends n) → CountsFit role s recvs now e b u
+  fit_finished now n o half same has allowed is = fit_sent now n finish_lane is each_lane
+    where
+      finished : (r : Option Reset) (f a from end : Bool) → answer_of (cond (is_some r) (Some WasReset) (cond f (Some Finished) None)) ≡ Ok tt → (end ≡ true → f ≡ true) → (a || (is_none r && true && (from && end))) ≡ (a || (is_none r && f && (from && end)))
+      finished (Some r) f a from end ok asked = refl
+      finished None false a true true ok asked = absurd (both_ways false refl (asked refl))
+      finished None _ a _ _ ok asked = refl
+
+      each_lane : (l : SendLane) → lookup sends n ≡ Some l → send_ended (finish_lane l) ≡ send_ended l
+      each_lane l there =
+          let lane : half.lane ≡ l = same_Some half.lane l (sym has.lane ∙ ap (λ (t : Tables SendLane). lookup t n) same ∙ there) in
+          finished l.was_reset l.finished l.reset_acked (unacked_from l == l.written) l.fin_acked (subst (λ x. answer_of (refusal (or_none x)) ≡ Ok tt) there allowed)
+          (subst (λ (x : SendLane). x.fin_acked ≡ true → x.finished ≡ true) lane (λ acked. has.lawful.ends.sent_asked (has.lawful.ends.acked_sent acked)))
+
+  -- streams are opened
+  pub fit_opened : (now_r : Tables RecvLane) (now_s : Tables SendLane) (n w : ℕ) (share : Share) (limit buffer : ℕ) (no_send no_recv : Bool) → now_s ≡ cond no_send sends (open_to sends n (λ m. new_send_lane m limit buffer))
+      → now_r ≡ cond no_recv recvs (open_to recvs n (λ m. new_recv_lane w share)) → CountsFit role s now_r now_s e b u
+  fit_opened now_r now_s n w share limit buffer no_send no_recv sent received =
+      fit_recvs now_r now_s e (recvs_opened role recvs now_r now_s e n w share no_recv (sends_opened role recvs sends now_s e n limit buffer no_send h.counted sent) received) (told_opened recvs now_r n w share no_recv h.told received)
+
+  -- limits rise, and each granted count becomes the next one
+  pub fit_settled : (t : Tuning) (p : Present) (now : Tables RecvLane) (g v : ℕ) → now ≡ each raise recvs → g ≡ max b (count_after s t Bidi p.grant_bidi e.bidi) → v ≡ max u (count_after s t Uni p.grant_uni e.uni) → CountsFit role s now sends e g v
+  fit_settled t p now g v is bidi uni = record { counted = counted_raised role recvs now sends e h.counted is; told = told_raised recvs now h.told is; bidi = omega (arith, bidi, h.bidi); uni = omega (arith, uni, h.uni) }
+
+-- an end within the credit, whose granted counts are within its lifetimes
+pub within_counted : (e : End) → IsInCredit e → e.granted_bidi ≤ e.settings.lifetime_bidi → e.granted_uni ≤ e.settings.lifetime_uni → IsWithinCredit e
+within_counted e sound bidi uni =
+    let w = within_credit (record e { granted_bidi = 0; granted_uni = 0 }) (sound, (omega arith, omega arith)) in
+    record { stored = w.stored; credit = w.credit; spent = w.spent; lanes = w.lanes; counts = counts }
+  where
+    counts : (d : Dir) → granted_streams e d ≤ lifetime e.settings d
+    counts Bidi = bidi
+    counts Uni = uni
+
+-- Streams that a frame opened are taken away
+
+opened_counted : (e : End) (n : ℕ) (c : ByDir ℕ) (own : Bool) → AreAllCounted e.role e.recvs e.sends c → AreAllCounted e.role (cond own e (opens n e)).recvs (cond own e (opens n e)).sends c
+opened_counted e n c true h = h
+opened_counted e n c false h =
+    recvs_opened e.role e.recvs _ _ c n (first_window e n) e.tuning.credit_step (is_uni n && is_own e n) (sends_opened e.role e.recvs e.sends _ c n (first_send_limit e n) e.settings.send_buffer (is_uni n && not (is_own e n)) h refl) refl
+
+pub closed_counted : (e mid : End) (n : ℕ) (recvs : Tables RecvLane) (sends : Tables SendLane) (c c' : ByDir ℕ) → mid ≡ opened_by_peer n e → recvs ≡ e.recvs → sends ≡ e.sends → AreAllCounted e.role e.recvs e.sends c → AreAllCounted mid.role mid.recvs mid.sends c'
+    → AreAllCounted mid.role recvs sends c'
+closed_counted e mid n recvs sends c c' is r s h mid_h =
+    let role : mid.role ≡ e.role = ap (λ (x : End). x.role) is ∙ cond_both (is_own e n) e (opens n e) (λ (x : End). x.role ≡ e.role) (λ own. refl) (λ new. refl) in
+    let opened : AreAllCounted e.role mid.recvs mid.sends c = subst (λ (x : End). AreAllCounted e.role x.recvs x.sends c) (sym is) (opened_counted e n c (is_own e n) h) in
+    let after : AreAllCounted e.role mid.recvs mid.sends c' = subst (λ (x : Role). AreAllCounted x mid.recvs mid.sends c') role mid_h in
+    let back : AreAllCounted e.role e.recvs e.sends c' = record { bidi = after.bidi ∙ sym opened.bidi ∙ h.bidi; uni = after.uni ∙ sym opened.uni ∙ h.uni } in
+    subst (λ (x : Role). AreAllCounted x recvs sends c') (sym role) (subst (λ (t : Tables RecvLane). AreAllCounted e.role t sends c') (sym r) (subst (λ (t : Tables SendLane). AreAllCounted e.role e.recvs t c') (sym s) back))
+
+-- A packet is filled
+
+pub put_counted : (role : Role) (e : End) (x : Seen) (c : ByDir ℕ) → AreAllCounted role e.recvs e.sends c → AreAllCounted role (frame_put x e).recvs (frame_put x e).sends c
+unfolding frame_put
+put_counted role e (Stream n offset bytes fin) c h = sends_same role e.recvs e.sends _ n (λ l. sent_lane l (chunk_of offset bytes fin)) c h refl (λ l there. refl)
+put_counted role e (Control (StreamDataBlocked n m)) c h = sends_same role e.recvs e.sends _ n blocked_lane c h refl (λ l there. refl)
+put_counted _ _ _ _ h = h
+
+-- a piece of a stream is acknowledged, and the stream is counted anew
+pub piece_recounted : (role : Role) (recvs : Tables RecvLane) (late : Bool) (k n : ℕ) (p : Piece) (o new : Outgoing) (e e' : ByDir ℕ) (was is : Bool) → half_of p ≡ Some n → new ≡ first_acked_out (acked_at late k p) o → AreAllCounted role recvs o.sends e
+    → was ≡ is_over role recvs o.sends n → is ≡ is_over role recvs new.sends n → e' ≡ recounted n was is e → AreAllCounted role recvs new.sends e'
+piece_recounted role recvs late k n p o new e e' was is half after h before behind to = go p half (ap (λ (x : Outgoing). x.sends) after)
+  where
+    go : (p : Piece) → half_of p ≡ Some n → new.sends ≡ (first_acked_out (acked_at late k p) o).sends → AreAllCounted role recvs new.sends e'
+    go (Data m c) half at = (let same : m ≡ n = same_Some m n half in send_recounted role recvs o.sends new.sends n (λ l. acked_lane l c) e e' was is h (at ∙ ap (λ j. updated o.sends j (λ l. acked_lane l c) (lookup o.sends j)) same) before behind to)
+    go (Told (ResetStream m code size)) half at = (let same : m ≡ n = same_Some m n half in send_recounted role recvs o.sends new.sends n reset_acked_lane e e' was is h (at ∙ ap (λ j. updated o.sends j reset_acked_lane (lookup o.sends j)) same) before behind to)
+    go _ none at = absurd (none-some n none)
+
+-- ---- What holds of the tables of an end: each change of a part keeps it.
 
 -- The peer stays within its credit
 
@@ -81,9 +307,7 @@ streams_on a b c f g = record { limits = g.limits ∙ f.limits; recvs = g.recvs 
 
 -- but for a RESET_STREAM an item leaves the sending halves as they are
 sends_stay : (late : Bool) (k : ℕ) (p : Piece) (o : Outgoing) → half_of p ≡ None → (first_acked_out (acked_at late k p) o).sends ≡ o.sends
-sends_stay late k (Data n c) o none = absurd (none-some n (sym none))
-sends_stay late k (Told i) o none =
-    each_item (λ j. half_of (Told j) ≡ None → (first_acked_out (acked_at late k (Told j)) o).sends ≡ o.sends) (λ m is. refl) (λ n m is. refl) (λ d m is. refl) (λ n code size is. absurd (none-some n (sym is))) (λ n code is. refl) (λ m is. refl) (λ n m is. refl) (λ d m is. refl) i none
+sends_stay late k p o none = grind (arith, nat_tests)
 
 -- the next number and the room of a packet are no part of it
 pub core_outbox : (c : Core) → IsCore c → (next spare : ℕ) (o : Outgoing) → o ≡ record c.outbox { next = next; spare = spare } → IsCore (record c { outbox = o })
@@ -93,8 +317,7 @@ core_outbox c h next spare o is = subst (λ (x : Outgoing). IsCore (record c { o
 core_out : (c : Core) (h : IsCore c) (o : Outgoing) (ins outs : Tables Bool) (t : Carried) (ys : Kept) (e : ByDir ℕ) → sent_sum o.sends ≤ c.limits.known_data → AreAllCounted c.limits.role c.recvs o.sends e
     → AreTold (TellsAt c.limits.role c.limits.settings) c.recvs o.outstanding o.acked ins → AreTold SendTells o.sends o.outstanding o.acked outs → AreCarried c.recvs o.sends o.outstanding t → AreOwn c.limits o.outstanding ys
     → IsCore (record c { outbox = o; untold_recvs = ins; untold_sends = outs; carried = t; own = ys; ended = e })
-core_out c h o ins outs t ys e credit counted told_in told_out carried own =
-    record { sound = h.sound; fits = h.fits; credit = credit; counts = fit_sends _ _ _ _ _ _ _ h.counts o.sends e counted; told_in = told_in; told_out = told_out; carried = carried; own = own }
+core_out c h o ins outs t ys e credit counted told_in told_out carried own = grind (arith, nat_tests)
 
 -- marks alone change
 core_marks : (c : Core) (h : IsCore c) (ins outs : Tables Bool) → AreTold (TellsAt c.limits.role c.limits.settings) c.recvs c.outbox.outstanding c.outbox.acked ins → AreTold SendTells c.outbox.sends c.outbox.outstanding c.outbox.acked outs
@@ -401,15 +624,7 @@ fills_within a b xs ys i j own most le f =
 
 -- a write of nothing leaves the sending halves as they are
 pub none_written : (n count : ℕ) (bytes : List ℕ) (a b : Outgoing) → count ≤ 0 → b ≡ on_lane n (λ l. write_lane l (take count bytes)) a → b ≡ a
-none_written n zero bytes a b none is = is ∙ go (lookup a.sends n) refl
-  where
-    same : (l : SendLane) → write_lane l [] ≡ l
-    same l = let no_more : l.written + 0 ≡ l.written = omega arith in rw (append-nil l.kept, no_more) refl
-
-    go : (x : Option SendLane) → lookup a.sends n ≡ x → with_sends (updated a.sends n (λ l. write_lane l []) x) a ≡ a
-    go None at = refl
-    go (Some l) at = ap (λ t. with_sends t a) (ap (update a.sends n) (same l) ∙ update_back a.sends n l at)
-none_written n (suc k) bytes a b none is = absurd (omega (arith, none))
+none_written n count bytes a b none is = grind (arith, nat_tests, append-nil, update_back)
 
 -- What holds of an end between calls
 
@@ -446,11 +661,10 @@ module _ (c : Core) (peer : PeerLimits) (done : NumberSet) (is due : Bool) (clos
 -- What is set anew keeps what holds of an end
 
 in_range : (b : Bool) → b ≡ true → first_refusal (refuse_if (not b) OutOfRange) None ≡ None
-in_range true h = refl
-in_range false h = absurd (true≢false (sym h))
+in_range b h = grind (arith, nat_tests)
 
 limit_small : (present granted paid window : ℕ) → granted ≤ MAX_VARINT → limit_with present granted paid window ≤ MAX_VARINT
-limit_small present granted paid window h = grind (arith, nat_tests, h)
+limit_small present granted paid window h = grind (arith, nat_tests)
 
 limit_rises : (present granted paid window : ℕ) → granted ≤ limit_with present granted paid window
 limit_rises present granted paid window = grind (arith, nat_tests)
@@ -459,10 +673,10 @@ count_rises : (present granted lifetime over grant : ℕ) → granted ≤ count_
 count_rises present granted lifetime over grant = grind (arith, nat_tests)
 
 few_bidi : (s : Settings) → are_in_wide_range s ≡ true → s.lifetime_bidi ≤ MAX_LIFETIME
-few_bidi s h = grind (arith, nat_tests, h)
+few_bidi s h = grind (arith, nat_tests)
 
 few_uni : (s : Settings) → are_in_wide_range s ≡ true → s.lifetime_uni ≤ MAX_LIFETIME
-few_uni s h = grind (arith, nat_tests, h)
+few_uni s h = grind (arith, nat_tests)
 
 module _ (c : Core) (peer : PeerLimits) (done : NumberSet) (is_settled due : Bool) (closed : Option Closed) (k : IsKept c peer done is_settled due closed) where
   abbrev Keeps : Limits → Type 0
@@ -473,9 +687,7 @@ module _ (c : Core) (peer : PeerLimits) (done : NumberSet) (is_settled due : Boo
 
   keeps : (l : Limits) → KeepsCredit l.role l.settings (present_of l) c.recvs l.granted → LimitsFit l → sent_sum c.outbox.sends ≤ l.known_data → CountsFit l.role l.settings c.recvs c.outbox.sends c.ended l.granted_streams.bidi l.granted_streams.uni
       → AreTold (TellsAt l.role l.settings) c.recvs c.outbox.outstanding c.outbox.acked c.untold_recvs → AreOwn l c.outbox.outstanding c.own → Keeps l
-  keeps l sound fits credit counts told own =
-      kept_moved c peer done is_settled due closed k (record c { limits = l })
-      (record { core = record { sound = sound; fits = fits; credit = credit; counts = counts; told_in = told; told_out = inside.told_out; carried = inside.carried; own = own }; idle = k.rest.idle })
+  keeps l sound fits credit counts told own = grind (arith, nat_tests)
 
   -- the connection's window
   pub kept_window : (window paid : ℕ) (l : Limits) → is_settable (ConnWindow window) ≡ true → paid ≡ total taken c.recvs → l ≡ with_window window paid c.limits → Keeps l
@@ -503,3 +715,68 @@ module _ (c : Core) (peer : PeerLimits) (done : NumberSet) (is_settled due : Boo
           (record { granted = inside.fits.granted; granted_bidi = inside.fits.granted_bidi; granted_uni = omega (arith, within, few_uni c.limits.settings inside.sound.settings); known = inside.fits.known; bidi = inside.fits.bidi; uni = inside.fits.uni })
           inside.credit (record { counted = inside.counts.counted; told = inside.counts.told; bidi = inside.counts.bidi; uni = within }) inside.told_in
           (own_risen c.limits c.outbox.outstanding c.own inside.own _ (omega arith) (omega arith) (count_rises c.limits.grants.uni c.limits.granted_streams.uni c.limits.settings.lifetime_uni over streams) (omega arith) (omega arith) (omega arith))
+
+-- ---- A frame on a stream of which nothing was told moves no limit and no count of streams.
+
+raised_still : (t : Tables RecvLane) (n : ℕ) (l y : RecvLane) → lookup t n ≡ Some l → each raise t ≡ t → ((raise l).limit ≡ l.limit → (raise y).limit ≡ y.limit) → each raise (update t n y) ≡ update t n y
+raised_still t n l y at all keep = grind (arith, nat_tests, lookup_each, each_update)
+
+-- one lane
+
+plain_taken : (l : RecvLane) (offset : ℕ) (bytes : List ℕ) (fin : Bool) → IsPlainLane l → taken (take_stream l offset bytes fin) ≡ taken l
+plain_taken l offset bytes fin p = grind (arith, nat_tests)
+
+plain_ended : (l : RecvLane) (offset : ℕ) (bytes : List ℕ) (fin : Bool) → IsPlainLane l → recv_ended (take_stream l offset bytes fin) ≡ recv_ended l
+plain_ended l offset bytes fin p = grind (arith, nat_tests)
+
+-- a frame on it
+
+module _ (recvs now : Tables RecvLane) (n offset : ℕ) (bytes : List ℕ) (fin : Bool) (l : RecvLane) (at : lookup recvs n ≡ Some l) (p : IsPlainLane l) (after : now ≡ updated recvs n (λ x. take_stream x offset bytes fin) (lookup recvs n)) where
+  plain_there : now ≡ update recvs n (take_stream l offset bytes fin)
+  plain_there = after ∙ ap (updated recvs n (λ x. take_stream x offset bytes fin)) at
+
+  pub plain_next : (s : Settings) (t : Tuning) (pr : Present) (e : ByDir ℕ) (is : Bool) (g b u : ℕ) → AreNextWhere is s t pr recvs e g b u → AreNextWhere is s t pr now e g b u
+  plain_next s t pr e is g b u next on =
+      let was = next on in
+      let moved = total_update taken recvs n l (take_stream l offset bytes fin) at in
+      let stays = plain_taken l offset bytes fin p in
+      let same : total taken now ≡ total taken recvs = ap (total taken) plain_there ∙ omega (arith, moved, stays) in
+      record {
+        streams = subst (λ (x : Tables RecvLane). each raise x ≡ x) (sym plain_there) (raised_still recvs n l _ at was.streams (stream_settled l offset bytes fin stays));
+        connection = ap (λ k. next_limit g k pr.conn_window t.credit_step) same ∙ was.connection;
+        bidi = was.bidi;
+        uni = was.uni;
+      }
+
+  over_plain : (role : Role) (sends : Tables SendLane) → is_over role recvs sends n ≡ is_over role now sends n
+  over_plain role sends = grind (arith, nat_tests, plain_ended, lookup_same)
+
+  pub fit_plain : (role : Role) (s : Settings) (sends : Tables SendLane) (e : ByDir ℕ) (b u : ℕ) (h : CountsFit role s recvs sends e b u) (pr : Present) (g : ℕ) → KeepsCredit role s pr recvs g → IsOk (check_stream (or_new (lookup recvs n) 0 Half) offset (length bytes) fin) → CountsFit role s now sends e b u
+  fit_plain role s sends e b u h pr g k passed =
+      let was = is_over role recvs sends n in
+      fit_streamed role s recvs sends e b u h pr g k now n offset bytes fin e was was passed after refl (over_plain role sends) (sym (nothing_recounted n was e))
+
+-- Which stream is one
+
+open_below : {X : Type 0} (t : Tables X) (n k i count : ℕ) → k ≡ n % 4 → i ≡ n / 4 → count ≡ length (table t k) → i < count → is_some (lookup t n) ≡ true
+unfolding lookup
+open_below t n k i count kind place len lt =
+    let all = len ∙ ap (λ (j : ℕ). length (table t j)) kind in
+    let below : n / 4 < count = omega (arith, lt, place) in
+    sym (some_tested (table t (n % 4)) (n / 4) count all) ∙ grind (arith, nat_tests)
+
+module _ (e : End) (n : ℕ) (l : RecvLane) (at : recv_lane e n ≡ Some l) (p : IsPlainLane l) where
+  open_with : (is_uni n || is_some (send_lane e n)) ≡ true → IsPlain e n
+  open_with both = grind (arith, nat_tests, open_stays, same_Some)
+
+  pub plain_uni : (k : ℕ) → k ≡ n % 4 → 2 ≤ k → IsPlain e n
+  plain_uni k kind le =
+      let up : is_uni n ≡ true = grind (arith, nat_tests, kind, le) in
+      open_with (ap (λ b. b || is_some (send_lane e n)) up)
+
+  pub plain_bidi : (k i count : ℕ) → k ≡ n % 4 → i ≡ n / 4 → count ≡ length (table e.sends k) → i < count → IsPlain e n
+  plain_bidi k i count kind place len lt = open_with (go (is_uni n) (open_below e.sends n k i count kind place len lt))
+    where
+      go : (b : Bool) → is_some (send_lane e n) ≡ true → (b || is_some (send_lane e n)) ≡ true
+      go true is = refl
+      go false is = is

@@ -1,46 +1,217 @@
--- The bytes of streams go into a packet, one stream after the other.
-use Rattle.std.proofs.Common.{◌≡◌, ◌≢◌, ℕ, ◌+◌, ◌-◌, ◌<◌, ◌≤◌, Bool, true, false, List, [], ◌++◌, ◌⊎◌, length, take, is_some, ◌↔◌, IsTrue, refl, sym, ap, ◌∙◌, subst, arith, inl, inr, Some}
-use Rattle.std.proofs.lemmas.Bool.{true≢false, cases_lt, cases_eq}
-use Rattle.std.proofs.lemmas.Bool.Decides.{nat_tests}
-use Rattle.std.proofs.lemmas.List.{length-append, length-take-le}
-use Rattle.std.proofs.lemmas.Option.{same_Some, none-some}
+-- Chunks of a stream go into a packet, one for each run.
 use Rattle.std.specs.FinSet as set
+use Rattle.std.specs.FinMap as fmap
+use Rattle.std.proofs.Common.{◌≡◌, ◌≢◌, ℕ, ◌+◌, ◌-◌, ◌<◌, ◌≤◌, Bool, true, false, not, List, ◌⊎◌, length, max, refl, sym, ap, ◌∙◌, subst, arith, inl, inr, None, Some, is_some, [], ◌++◌, take, ◌↔◌, IsTrue, ◌∷◌, Option, nat_lt}
+use Rattle.std.proofs.lemmas.Bool.{true≢false, cases_lt, and_parts, cases_eq}
+use Rattle.std.proofs.lemmas.Bool.Decides.{nat_tests}
+use Rattle.std.proofs.lemmas.Option.{same_Some, none-some}
+use Rattle.qs_ranges.specs.Numbers.{contains-without_range, MAX_VARINT}
+use Rattle.qs_send.specs.Lane.{Sending, sent_lane, after_sent, bytes_of, SendLane, blocked_lane, after_blocked}
+use Rattle.qs_send.specs.Chunks.{IsDueChunk, IsAllowed, IsNextChunk, HasNoChunk, HasBytes, IsHeldByRoom, frame_len}
+use Rattle.qs_send.specs.Sound.{IsLawful}
+use Rattle.qs_send.specs.declared.parts.Chunk.{Chunk}
+use Rattle.qs_send.specs.declared.piece.Piece.TheVariants.{Data, Told}
+use Rattle.qs_send.proofs.Steps.{sendable_has_chunk, sendable_end_has_chunk, lawful_sent, held_by_room_or_limits, cut_chunk_is_last}
+use Rattle.qs_recv.specs.Lane.{RecvLane}
+use Rattle.qs_conn.specs.declared.limits.Limits.{Limits}
+use Rattle.qs_machine.specs.Tables.{Tables, lookup, update, updated, total}
+use Rattle.qs_machine.specs.Ends.{End, send_lane, Records}
+use Rattle.qs_machine.specs.Credit.{all_sent}
+use Rattle.qs_machine.specs.Seen.{Seen, Stream, Control, seen_all}
+use Rattle.qs_machine.specs.Due.{IsDue, ByteGoes, EndGoes, StreamGoes}
+use Rattle.qs_machine.specs.Lawful.{MayCarry, frame_put, chunk_of, AcksAll, ComesBefore}
+use Rattle.qs_machine.specs.Outgoing.{Outgoing, HasSending, IsTied, chunk_put, on_lane, sent_sum, lanes_of, with_pending, IsCarried, AreBelow, AreTied, IsOutbox, ChunkFound, MayTell, item_put_out, halves_told, blocked_noted}
+use Rattle.qs_conn.specs.Filling.{end_by, InPacket, IsAckLeft, MayGo, stream_frame, all_items, Turn, turn_at, HadTurn, IsOnWay, start_of, way_end, Framed, Content, WithItems, Flowing, Flow, Packed, PackedBy, Stage, IsPassed}
+use Rattle.qs_machine.proofs.Carried.{with_piece, some_is, get_new, get_other}
+use Rattle.qs_machine.proofs.TableLaws.{lookup_same, lookup_other, total_update}
+use Rattle.qs_machine.proofs.Tied.{tied_sent, tied_blocked}
+use Rattle.qs_conn.proofs.Outboxes.{due_is, is_due, end_due_is, is_end_due, one_sending, none_above}
+use Rattle.qs_conn.proofs.Untolds.{put_old, put_packet, goes_less, order_put, item_in}
+use Rattle.std.proofs.lemmas.List.{length-append, length-take-le}
 use Rattle.qs_wire.specs.Layout.{FrameValue, stream}
 use Rattle.qs_wire.specs.Varint.{short}
 use Rattle.qs_wire.proofs.Numbers.{short_positive}
 use Rattle.qs_wire.specs.Grammar.{Fits, canonical}
-use Rattle.qs_send.specs.Lane.{SendLane, Sending, sent_lane, after_sent, bytes_of}
-use Rattle.qs_send.specs.Chunks.{IsDueChunk, IsAllowed, IsNextChunk, HasNoChunk, HasBytes, IsHeldByRoom, frame_len}
 use Rattle.qs_send.specs.Laws.{fresh_after}
-use Rattle.qs_send.specs.declared.parts.Chunk.{Chunk}
 use Rattle.qs_send.specs.declared.piece.Piece.{Piece}
-use Rattle.qs_send.specs.declared.piece.Piece.TheVariants.{Data}
-use Rattle.qs_send.proofs.Canonical.{frame_len_is_canonical}
-use Rattle.qs_send.proofs.Held.{held_by_room_or_limits}
-use Rattle.qs_send.proofs.Numbers.{short_len-more}
-use Rattle.qs_send.proofs.Packets.{cut_chunk_is_last}
-use Rattle.qs_ranges.specs.Numbers.{MAX_VARINT, contains-without_range}
-use Rattle.qs_recv.specs.Lane.{RecvLane}
-use Rattle.qs_conn.specs.declared.limits.Limits.{Limits}
+use Rattle.qs_send.proofs.Numbers.{frame_len_is_canonical, short_len-more}
 use Rattle.qs_conn.specs.declared.filling.Wish.{Wish}
-use Rattle.qs_machine.specs.Outgoing.{Outgoing, HasSending, chunk_put, on_lane, sent_sum}
 use Rattle.qs_machine.specs.Sums.{or_none}
-use Rattle.qs_machine.proofs.TableLaws.{lookup_same, total_update}
-use Rattle.qs_machine.specs.Tables.{Tables, lookup}
-use Rattle.qs_machine.specs.Ends.{End, send_lane}
-use Rattle.qs_machine.specs.Credit.{all_sent}
-use Rattle.qs_machine.specs.Seen.{Seen, Stream, Control, seen_all}
-use Rattle.qs_machine.specs.Due.{ByteGoes, StreamGoes}
-use Rattle.qs_machine.specs.Lawful.{AcksAll, ComesBefore, frame_put, chunk_of}
 use Rattle.qs_calls.specs.declared.filling.Fill.{Fill}
 use Rattle.qs_machine.specs.Filling.{IsAsked, EndGoesAlone, GoesWithin}
-use Rattle.qs_conn.specs.Filling.{IsAckLeft, end_by, MayGo, stream_frame, InPacket, all_items, Turn, turn_at, HadTurn, IsOnWay, start_of, way_end, Framed, Content, WithItems, Flowing, Flow, Packed, PackedBy, Stage, IsPassed}
-use Rattle.qs_conn.proofs.Stages.{framed_first, framed_among, framed_turn, framed_bytes, framed_more, begun_content}
-use Rattle.qs_conn.proofs.Pieces.{order_put, item_in}
-use Rattle.qs_conn.proofs.Chunks.{Allowed, Found, Ties, ties_of, ties_sent, one_half, IsClear, may_carry, byte_of, chunk_sum, chunk_known, clear_old, clear_new, goes_other, chunk_only, none_goes}
-use Rattle.qs_conn.proofs.DueTied.{due_is}
-use Rattle.qs_conn.proofs.Openings.{none_is}
-use Rattle.qs_conn.proofs.Passing.{passed_all}
+use Rattle.qs_conn.proofs.Stages.{framed_first, framed_among, framed_turn, framed_bytes, framed_more, begun_content, passed_all}
+use Rattle.std.specs.FinMap.{nat_cmp-IsAntisymmetric}
+use Rattle.std.specs.Cmp.{nat_cmp_total}
+use Rattle.std.specs.Option.{IfSome, IfNone}
+use Rattle.qs_send.specs.declared.piece.Item.{Item}
+use Rattle.qs_send.specs.declared.piece.Item.TheVariants.{StreamDataBlocked}
+use Rattle.qs_machine.proofs.LaneTables.{lane_there, lanes_updated, update_lanes}
+use Rattle.qs_machine.proofs.Ties.{ties_updated, ties_chunk_put, ties_item_put}
+
+-- The half of a stream, with what is due of it.
+pub record Ties (e : End) (n : ℕ) (s : Sending) : Type 0 where
+  pub lane : send_lane e n ≡ Some s.lane
+  pub lawful : IsLawful s
+  pub tied : IsTied e.outstanding n s
+
+pub ties_of : (t : Limits) (recvs : Tables RecvLane) (o : Outgoing) (e : End) (n : ℕ) (s : Sending) → HasSending o n s → Ties (end_by t recvs o e) n s
+ties_of t recvs o e n s h = record { lane = h.lane; lawful = h.lawful; tied = h.tied }
+
+-- a chunk that a stream's half may send, with its bytes, and the longest one
+abbrev pub Allowed : Outgoing → (n left fresh : ℕ) → Chunk → Type 0
+Allowed o n left fresh c = (s : Sending) × HasSending o n s × (IsAllowed s left fresh c × HasBytes s.lane c)
+
+abbrev pub Found : Outgoing → (n left fresh : ℕ) → Chunk → Type 0
+Found o n left fresh c = (s : Sending) × HasSending o n s × (IsNextChunk s left fresh c × HasBytes s.lane c)
+
+pub found_allowed : (o : Outgoing) (n left fresh : ℕ) (c : Chunk) → Found o n left fresh c → Allowed o n left fresh c
+found_allowed o n left fresh c (s, h, (next, has)) = (s, h, (next.allowed, has))
+
+-- there is one half of each stream
+pub one_half : (e : End) (n : ℕ) (s x : Sending) → Ties e n s → Ties e n x → s ≡ x
+one_half e n s x t u = one_sending e.outstanding n s x t.lawful u.lawful t.tied u.tied (same_Some s.lane x.lane (sym t.lane ∙ u.lane))
+
+-- No later chunk of the half begins where this one ends.
+pub record IsClear (s : Sending) (c : Chunk) : Type 0 where
+  pub not_due : set.contains s.due.offsets (c.offset + c.len) ≡ false
+  pub not_end : s.due.fin ≡ true → c.offset + c.len ≢ s.lane.written
+
+pub same_truth : (a b : Bool) → (a ≡ true → b ≡ true) → (b ≡ true → a ≡ true) → a ≡ b
+same_truth a b to from = grind arith
+
+module _ (e : End) (n : ℕ) (s : Sending) (t : Ties e n s) (c : Chunk) (chunk : IsDueChunk s c) where
+  -- what the end of a chunk means
+  fin_means : c.fin ≡ true → (s.due.fin ≡ true) × (c.offset + c.len ≡ s.lane.written)
+  fin_means is = (let fin = chunk.fin in grind (arith, nat_tests, fin, is))
+
+  some_of : (0 < c.len) ⊎ (c.fin ≡ true)
+  some_of = (let some = chunk.some in grind (arith, nat_tests, some))
+
+  first_due : 0 < c.len → IsDue e n s.lane c.offset
+  first_due some = due_is e n s t.tied t.lawful c.offset (chunk.due c.offset (omega arith) (omega (arith, some)))
+
+  no_reset_of : s.lane.was_reset ≡ None
+  no_reset_of = elim some_of [ inl some ↦ (first_due some).no_reset | inr fin ↦ (end_due_is e n s t.tied t.lawful (fin_means fin).0).no_reset ]
+
+  lowest_of : (q : ℕ) → set.contains s.due.offsets q ≡ true → c.offset ≤ q
+  lowest_of q there = elim (cases_lt q c.offset) [ inl lt ↦ absurd (true≢false (sym there ∙ chunk.lowest q (omega arith) lt)) | inr ge ↦ ge ]
+
+  -- it begins among what was sent, or where that ends
+  first_sent : c.offset ≤ s.lane.sent_end
+  first_sent =
+      elim (cases_lt s.lane.sent_end s.lane.written) [
+        | inl lt ↦ lowest_of s.lane.sent_end (t.lawful.parts.unsent_due (ap is_some no_reset_of) s.lane.sent_end (omega arith) lt)
+        | inr ge ↦ elim some_of [ inl some ↦ (let due = (first_due some).written in omega (arith, ge, due)) | inr fin ↦ omega (arith, ge, (fin_means fin).1) ]
+      ]
+
+  -- it begins where no clear one ended
+  clear_apart : (d : Chunk) → IsClear s d → d.offset + d.len ≢ c.offset
+  clear_apart d clear same = grind (arith, nat_tests)
+
+  pub may_carry : (bytes : List ℕ) → bytes ≡ bytes_of s.lane c → length bytes ≡ c.len → HasBytes s.lane c → ((d : Chunk) → InPacket e (Data n d) → IsClear s d) → MayCarry e n c.offset bytes c.fin s.lane
+  may_carry bytes is count has clear =
+      record {
+        lane = t.lane;
+        no_reset = no_reset_of;
+        something = elim some_of [ inl some ↦ inl (omega (arith, some, count)) | inr fin ↦ inr fin ];
+        due = λ q ge lt. due_is e n s t.tied t.lawful q (chunk.due q ge (omega (arith, lt, count)));
+        lowest = λ q d. lowest_of q (is_due e n s t.tied q d);
+        whole_run = λ d there. clear_apart d (clear d there);
+        bytes_are = subst (λ k. bytes ≡ bytes_of s.lane (record { offset = c.offset; len = k; fin = c.fin })) (sym count) is;
+        inside = omega (arith, count, has.end);
+        within = omega (arith, count, chunk.within_limit);
+        end = λ fin. (end_due_is e n s t.tied t.lawful (fin_means fin).0, omega (arith, count, (fin_means fin).1), first_sent);
+      }
+
+  -- within the credit a byte of it goes
+  pub byte_of : c.offset + c.len ≤ s.lane.sent_end + (e.known_data - all_sent e) → 0 < c.len → ByteGoes e n s.lane
+  byte_of credit some = (
+    c.offset,
+    first_due some,
+    omega (arith, some, chunk.within_limit),
+    elim (cases_lt c.offset s.lane.sent_end) [ inl old ↦ inl old | inr ge ↦ inr (omega (arith, ge, first_sent), omega (arith, some, credit, ge)) ],
+  )
+
+  -- or its end
+  pub chunk_goes : c.offset + c.len ≤ s.lane.sent_end + (e.known_data - all_sent e) → StreamGoes e n
+  chunk_goes credit = (
+    s.lane,
+    t.lane,
+    elim (cases_lt 0 c.len) [
+      | inl some ↦ inl (byte_of credit some)
+      | inr none ↦ elim some_of [
+        | inl some ↦ absurd (omega (arith, none, some))
+        | inr fin ↦ inr (end_due_is e n s t.tied t.lawful (fin_means fin).0, omega (arith, none, (fin_means fin).1, first_sent, t.lawful.order.sent_written))
+      ]
+    ],
+  )
+
+-- The chunk is put.
+module _ (e : End) (n : ℕ) (s : Sending) (t : Ties e n s) (c : Chunk) (chunk : IsDueChunk s c) (bytes : List ℕ) (count : length bytes ≡ c.len) where
+  abbrev f : Seen
+  f = Stream n c.offset bytes c.fin
+
+  abbrev pub chunk_end_put : End
+  chunk_end_put = frame_put f e
+
+  is_chunk : chunk_of c.offset bytes c.fin ≡ c
+  is_chunk = ap (λ k. record { offset = c.offset; len = k; fin = c.fin }) count
+
+  sends_are : chunk_end_put.sends ≡ update e.sends n (sent_lane s.lane c)
+  unfolding frame_put
+  sends_are = ap (λ o. updated e.sends n (λ l. sent_lane l (chunk_of c.offset bytes c.fin)) o) t.lane ∙ ap (λ d. update e.sends n (sent_lane s.lane d)) is_chunk
+
+  out_is : chunk_end_put.outstanding ≡ with_piece e.outstanding e.next (Data n c)
+  unfolding frame_put
+  out_is = ap (λ d. with_piece e.outstanding e.next (Data n d)) is_chunk
+
+  pub ties_sent : Ties chunk_end_put n (after_sent s c)
+  ties_sent = record {
+    lane = ap (λ x. lookup x n) sends_are ∙ lookup_same e.sends n s.lane (sent_lane s.lane c) t.lane;
+    lawful = lawful_sent s c chunk t.lawful;
+    tied = subst (λ m. IsTied m n (after_sent s c)) (sym out_is) (tied_sent e.outstanding e.next n s c t.tied t.lawful chunk);
+  }
+
+  pub chunk_sum : all_sent chunk_end_put + s.lane.sent_end ≡ all_sent e + max s.lane.sent_end (c.offset + c.len)
+  chunk_sum = (let same : all_sent chunk_end_put ≡ total (λ l. l.sent_end) (update e.sends n (sent_lane s.lane c)) = ap (total (λ l. l.sent_end)) sends_are in omega (arith, same, total_update (λ l. l.sent_end) e.sends n s.lane (sent_lane s.lane c) t.lane))
+
+  pub chunk_known : chunk_end_put.known_data ≡ e.known_data
+  unfolding frame_put
+  chunk_known = refl
+
+  -- what is due of the half then
+  due_then : (q : ℕ) → set.contains s.due.offsets q ≡ false → set.contains (after_sent s c).due.offsets q ≡ false
+  due_then q none = grind (arith, nat_tests, none, contains-without_range s.due.offsets c.offset (c.offset + c.len) q)
+
+  pub clear_old : (d : Chunk) → IsClear s d → IsClear (after_sent s c) d
+  clear_old d clear = record { not_due = due_then (d.offset + d.len) clear.not_due; not_end = λ fin. clear.not_end (and_parts s.due.fin (not c.fin) fin).0 }
+
+  -- a chunk that ends its run is clear
+  pub clear_new : set.contains s.due.offsets (c.offset + c.len) ≡ false → IsClear (after_sent s c) c
+  clear_new none = record { not_due = due_then (c.offset + c.len) none; not_end = λ fin at. (let is = chunk.fin in grind (arith, nat_tests, is, fin, at)) }
+
+  -- another lane has no more to send than before
+  pub goes_other : (m : ℕ) → m ≢ n → StreamGoes chunk_end_put m → StreamGoes e m
+  goes_other m ne =
+      goes_less chunk_end_put e m (λ l there. sym (ap (λ x. lookup x m) sends_are ∙ lookup_other e.sends n m (sent_lane s.lane c) ne) ∙ there) (λ left. omega (arith, left, chunk_sum, chunk_known)) (λ d. put_old f e (Data m d))
+
+  -- only this chunk is new in the packet
+  pub chunk_only : (m : ℕ) (d : Chunk) → InPacket chunk_end_put (Data m d) → InPacket e (Data m d) ⊎ ((m ≡ n) × (d ≡ c))
+  chunk_only m d there = grind (arith, nat_tests, put_packet)
+
+-- A half without a chunk has nothing that could go, given room for the longest item and all the credit.
+pub none_goes : (e : End) (n : ℕ) (s : Sending) (room : ℕ) → Ties e n s → 25 ≤ room → all_sent e ≤ e.known_data → HasNoChunk s room (e.known_data - all_sent e) → StreamGoes e n → ⊥
+none_goes e n s room t enough credit none (l, there, some) = go (same_Some l s.lane (sym there ∙ t.lane)) some
+  where
+    byte : ByteGoes e n s.lane → ⊥
+    byte (q, due, low, inl old) = sendable_has_chunk s room (e.known_data - all_sent e) q t.lawful (omega (arith, enough)) (is_due e n s t.tied q due, low, inl old) none
+    byte (q, due, low, inr (at, fresh)) = sendable_has_chunk s room (e.known_data - all_sent e) q t.lawful (omega (arith, enough)) (is_due e n s t.tied q due, low, inr (at, omega (arith, fresh))) none
+
+    go : l ≡ s.lane → ByteGoes e n l ⊎ EndGoes e n l → ⊥
+    go same (inl b) = byte (subst (ByteGoes e n) same b)
+    go same (inr b) = (let (due, sent) = subst (EndGoes e n) same b in sendable_end_has_chunk s room (e.known_data - all_sent e) t.lawful (omega (arith, enough)) (is_end_due e n s t.tied due) sent none)
+
+-- ---- The bytes of streams go into a packet, one stream after the other.
 
 -- A packet with the streams that had their turn before n, and some chunks of stream n: of these no later one begins where another ended,
 -- or none may follow.
@@ -60,22 +231,22 @@ had_or_not true first at m = grind arith
 
 -- a stream's turn isn't over as it begins
 not_yet : (around : Bool) (first n : ℕ) → IsOnWay around first n → HadTurn around first n n → ⊥
-not_yet around first n on had = grind (arith, had)
+not_yet around first n on had = grind (arith)
 
 -- it is over as the next one begins
 now_had : (around : Bool) (first n : ℕ) → IsOnWay around first n → HadTurn around first (n + 1) n
 now_had around first n on = grind arith
 
 had_still : (around : Bool) (first a b m : ℕ) → a ≤ b → HadTurn around first a m → HadTurn around first b m
-had_still around first a b m le had = grind (arith, had)
+had_still around first a b m le had = grind (arith)
 
 -- turns that were over before, and those between
 had_before : (around : Bool) (first a b m : ℕ) → HadTurn around first b m → HadTurn around first a m ⊎ ((a ≤ m) × (m < b))
-had_before around first a b m had = grind (arith, had)
+had_before around first a b m had = grind (arith)
 
 -- a stream that isn't of the way lies behind all of it that are left
 pub off_way : (around : Bool) (first from past n : ℕ) → start_of around first ≤ from → from ≤ past → (IsOnWay around first past → ⊥) → IsOnWay around first n → n < past
-off_way around first from past n begun le off on = grind (arith, begun, off, on)
+off_way around first from past n begun le off on = grind (arith, off)
 
 -- all had theirs once the way around is done
 pub had_all : (first n : ℕ) → HadTurn true first first n
@@ -83,11 +254,11 @@ had_all first n = grind arith
 
 -- what comes before a stream had its turn
 comes_before : (around : Bool) (first m n : ℕ) → IsOnWay around first n → ComesBefore first m n → HadTurn around first n m
-comes_before around first m n on before = grind (arith, before)
+comes_before around first m n on before = grind (arith)
 
 -- a stream that is behind another one in turn
 comes_after : (around : Bool) (first m n : ℕ) → IsOnWay around first n → (HadTurn around first n m → ⊥) → m ≢ n → ComesBefore first n m
-comes_after around first m n on not ne = grind (arith, not, ne)
+comes_after around first m n on not ne = grind (arith, not)
 
 -- after the control items
 pub flow_first : (first : ℕ) (wish : Wish) (room : ℕ) (old : End) (text : List ℕ) (e : End) (b : Bool) → first ≡ wish.want.first → Stage wish room old text e b all_items → Flow wish room old text e wish.want.most_bytes b (turn_at false first first)
@@ -118,8 +289,7 @@ flow_bare first wish room old left at unasked goes none within fresh = subst (λ
 
 -- no ACK goes without the items
 pub unwished : (ack items : Bool) → (ack ≡ true → items ≡ true) → items ≡ false → ack ≡ false
-unwished true items both none = absurd (true≢false (sym (both refl) ∙ none))
-unwished false items both none = refl
+unwished ack items both none = grind (arith, nat_tests)
 
 -- a stream begins
 pub chunking_begins : (wish : Wish) (room : ℕ) (old : End) (text : List ℕ) (e : End) (quota : ℕ) (around : Bool) (first n : ℕ) → IsAsked wish.want n → IsOnWay around first n → Flowing wish room old text e quota (turn_at around first n) → Chunking wish room old text e quota around first n
@@ -293,8 +463,7 @@ flow_way wish room old text e quota b true first done past =
 
 -- or that of a stream that can't send
 pub flow_none : (wish : Wish) (room : ℕ) (old : End) (text : List ℕ) (e : End) (quota : ℕ) (b : Bool) (around : Bool) (first n : ℕ) → is_some (send_lane e n) ≡ false → Flow wish room old text e quota b (turn_at around first n) → Flow wish room old text e quota b (turn_at around first (n + 1))
-flow_none wish room old text e quota b around first n none =
-    flow_idle wish room old text e quota b around first n (n + 1) (omega arith) (λ m ge lt (l, at, goes). (let same : m ≡ n = omega (arith, ge, lt) in none-some l (sym (none_is (send_lane e n) none) ∙ ap (send_lane e) (sym same) ∙ at)))
+flow_none wish room old text e quota b around first n none = grind (arith, nat_tests, flow_idle, none-some)
 
 -- what may go within the cap may go
 pub within_goes : (quota first : ℕ) (e : End) (n : ℕ) → GoesWithin quota first e n → StreamGoes e n
@@ -363,8 +532,7 @@ flow_ends around first t recvs o e quota wish room old before len n left fresh f
 -- the packet is full, as no frame of a stream fits any more
 pub flow_few : (around : Bool) (first next : ℕ) (e : End) (quota : ℕ) (wish : Wish) (room : ℕ) (old : End) (before : List ℕ) (len n : ℕ) → len ≤ length before → room ≡ length before → length before - len < 25 →
     Chunking wish room old (take len before) e quota around first n → Flow wish room old (take len before) e quota true (turn_at around first next)
-flow_few around first next e quota wish room old before len n within at few k =
-    record { content = k.so_far.content; whole = λ left. absurd (omega (arith, few, left, at, length-take-le len before within)) }
+flow_few around first next e quota wish room old before len n within at few k = grind (arith, nat_tests, length-take-le)
 
 -- the sum of the sent ends stays within the credit
 pub sum_within : (o : Outgoing) (n : ℕ) (c : Chunk) (left fresh known : ℕ) → Allowed o n left fresh c → fresh ≡ known - sent_sum o.sends → sent_sum o.sends ≤ known → sent_sum (chunk_put n c o).sends ≤ known
@@ -398,18 +566,7 @@ longer_frame id offset n m le = (let more = short_len-more n m le in omega (arit
 
 -- they may go where all of it may
 cut_allowed : (s : Sending) (c : Chunk) (room fresh bytes : ℕ) → IsAllowed s room fresh c → HasBytes s.lane c → 0 < bytes → bytes < c.len → IsAllowed s room fresh (cut c bytes)
-cut_allowed s c room fresh bytes a has some less =
-    record {
-      chunk = record {
-        due = λ q ge lt. a.chunk.due q ge (omega (arith, lt, less));
-        lowest = a.chunk.lowest;
-        within_limit = omega (arith, a.chunk.within_limit, less);
-        fin = (let last = has.end in grind (arith, nat_tests, last, less));
-        some = grind (arith, nat_tests, some);
-      };
-      within_credit = omega (arith, a.within_credit, less);
-      fits = omega (arith, a.fits, longer_frame s.lane.id c.offset bytes c.len (omega (arith, less)));
-    }
+cut_allowed s c room fresh bytes a has some less = grind (arith, nat_tests, longer_frame)
 
 cut_both : (s : Sending) (c d : Chunk) (room fresh bytes : ℕ) → IsAllowed s room fresh c → HasBytes s.lane c → d ≡ cut c bytes → 0 < bytes → bytes < c.len → IsAllowed s room fresh d × HasBytes s.lane d
 cut_both s c d room fresh bytes a has is some less = rw is (cut_allowed s c room fresh bytes a has some less, record { no_reset = has.no_reset; from = has.from; end = omega (arith, has.end, less) })
@@ -430,13 +587,10 @@ cut_goes e n s t c d room allowed chunk bytes count at less = (sent_lane s.lane 
     next = d.offset + d.len
 
     there : set.contains (after_sent s d).due.offsets next ≡ true
-    there = (let was = allowed.chunk.due next (omega (arith, at)) (omega (arith, at, less)) in grind (arith, nat_tests, was, contains-without_range s.due.offsets d.offset (d.offset + d.len) (d.offset + d.len)))
+    there = (let was = allowed.chunk.due next (omega (arith, at)) (omega (arith, at, less)) in grind (arith, nat_tests, contains-without_range s.due.offsets d.offset (d.offset + d.len) (d.offset + d.len)))
 
     credit : (next < (sent_lane s.lane d).sent_end) ⊎ ((next ≡ (sent_lane s.lane d).sent_end) × (all_sent (frame_put (Stream n d.offset bytes d.fin) e) < (frame_put (Stream n d.offset bytes d.fin) e).known_data))
-    credit = elim (cases_lt next s.lane.sent_end) [
-      | inl lt ↦ inl (omega (arith, lt))
-      | inr ge ↦ inr (omega (arith, ge), omega (arith, ge, at, less, allowed.within_credit, chunk_sum e n s t d chunk bytes count, chunk_known e n s t d chunk bytes count))
-    ]
+    credit = grind (arith, nat_tests, chunk_sum, chunk_known)
 
 -- Over the parts of an end
 
@@ -466,3 +620,134 @@ flow_cut around first turn t recvs o o' e quota wish room old before after len e
     rw (text, put, end_chunk t recvs o e n d bytes count)
     (chunking_cut wish room old (take len before) there quota around first n k s tied (omega (arith, len_is, at, within)) d part.0 part.1 bytes (bytes_there o n s h d) count all
     (cut_goes there n s tied c d (room - length (take len before)) now.allowed part.0.chunk bytes count begin (omega (arith, all, past))))
+
+-- ---- An outbox makes packets.
+
+pub chunk_found : (s : Sending) (room fresh : ℕ) (r : Option Chunk) → IfSome r (IsNextChunk s room fresh) → IfNone r (HasNoChunk s room fresh) → IfSome r (HasBytes s.lane) → ChunkFound s room fresh r
+chunk_found s room fresh None found none kept = none
+chunk_found s room fresh (Some c) found none kept = (found, kept)
+
+-- the packet in the making has a piece
+pub piece_there : (m : Records) (k : ℕ) (ps : List Piece) (n : ℕ) → n ≡ length ps → AreBelow m k → nat_lt 0 n ≡ is_some (fmap.get (with_pending m k ps) k)
+piece_there m k ps n is below = grind (arith, nat_tests, get_new)
+
+pub same_sending : (o : Outgoing) (n : ℕ) (s x : Sending) → HasSending o n s → HasSending o n x → s ≡ x
+same_sending o n s x h g = one_sending o.outstanding n s x h.lawful g.lawful h.tied g.tied (some_is (lookup o.sends n) s.lane x.lane h.lane g.lane)
+
+-- The packet in the making has one piece more
+
+insert_twice : (m : Records) (k : ℕ) (a b : List Piece) → fmap.insert (fmap.insert m k a) k b ≡ fmap.insert m k b
+insert_twice m k a b =
+    fmap.same_map nat_cmp_total nat_cmp-IsAntisymmetric _ _ (λ q.
+    elim (cases_eq q k) [
+      | inl is ↦ subst (λ x. fmap.get (fmap.insert (fmap.insert m k a) k b) x ≡ fmap.get (fmap.insert m k b) x) (sym is) (get_new (fmap.insert m k a) k b ∙ sym (get_new m k b))
+      | inr ne ↦ get_other (fmap.insert m k a) k b q ne ∙ get_other m k a q ne ∙ sym (get_other m k b q ne)
+    ])
+
+so_far_in : Option (List Piece) → List Piece
+so_far_in o = elim o [ None ↦ [] | Some ps ↦ ps ]
+
+pub one_more : (m : Records) (k : ℕ) (ps : List Piece) (p : Piece) → AreBelow m k → with_pending m k (ps ++ p ∷ []) ≡ with_piece (with_pending m k ps) k p
+unfolding so_far_in
+one_more m k ps p below = grind (arith, nat_tests, get_new, insert_twice)
+
+-- What holds
+
+-- the room for the next record, as a number and as a test
+pub has_room : (n room : ℕ) → n < room → nat_lt n room ≡ true
+has_room n room lt = grind (arith, nat_tests)
+
+pub room_stays : (n room more : ℕ) → room ≤ more → nat_lt n room ≡ true → nat_lt n more ≡ true
+room_stays n room more le is = grind (arith, nat_tests)
+
+pub box_begun : (t : Tables Sending) (m m' : Records) (r r' : Bool) (ps qs : List Piece) (next sent spare free count free' : ℕ) → IsOutbox t m r ps next sent spare free → m' ≡ m → qs ≡ ps → r' ≡ true → count ≤ free' → IsOutbox t m' r' qs next sent count free'
+box_begun t m m' r r' ps qs next sent spare free count free' h same is ready room = grind (arith, nat_tests)
+
+-- the sum of the sent ends moves as that of the half does
+pub made_chunk_sum : (t t' : Tables Sending) (n sent moved : ℕ) (s : Sending) (c : Chunk) → lookup t n ≡ Some s → t' ≡ updated t n (λ x. after_sent x c) (lookup t n) → sent_sum (lanes_of t) ≡ sent → s.lane.sent_end + moved ≡ (after_sent s c).lane.sent_end → sent_sum (lanes_of t') ≡ sent + moved
+made_chunk_sum t t' n sent moved s c there halves was is = grind (arith, nat_tests, total_update, lane_there, update_lanes)
+
+pub box_chunk : (t t' : Tables Sending) (m : Records) (r : Bool) (ps qs : List Piece) (next sent spare free free' n moved : ℕ) (s : Sending) (c : Chunk) → IsOutbox t m r ps next sent spare free
+    → lookup t n ≡ Some s → IsLawful s → IsDueChunk s c → t' ≡ updated t n (λ x. after_sent x c) (lookup t n) → qs ≡ ps ++ Data n c ∷ [] → 0 < spare → spare ≤ free' + 1
+    → sent_sum (lanes_of t') ≤ MAX_VARINT → sent_sum (lanes_of t') ≡ sent + moved → IsOutbox t' m r qs next (sent + moved) (spare - 1) free'
+box_chunk t t' m r ps qs next sent spare free free' n moved s c h there law due halves pushed some room small sum =
+    let at : t' ≡ update t n (after_sent s c) = halves ∙ ap (updated t n (λ x. after_sent x c)) there in
+    record {
+      tied = rw (pushed, one_more m next ps (Data n c) h.below, at) (ties_chunk_put t (with_pending m next ps) next n s c h.tied there law due);
+      below = h.below;
+      sum = sum;
+      small = omega (arith, sum, small);
+      room = omega (arith, some, room);
+      ready = λ x. h.ready (omega (arith, some));
+    }
+
+pub box_item : (t t' : Tables Sending) (m : Records) (r : Bool) (ps qs : List Piece) (next sent spare free free' : ℕ) (i : Item) → IsOutbox t m r ps next sent spare free
+    → t' ≡ halves_told i t → MayTell (lanes_of t) i → (IsCarried (with_pending m next ps) (Told i) → ⊥) → qs ≡ ps ++ Told i ∷ [] → 0 < spare → spare ≤ free' + 1 → IsOutbox t' m r qs next sent (spare - 1) free'
+box_item t t' m r ps qs next sent spare free free' i h halves may new pushed some room =
+    record {
+      tied = rw (pushed, one_more m next ps (Told i) h.below, halves) (told_tied i may new).0;
+      below = h.below;
+      sum = ap (λ x. sent_sum (lanes_of x)) halves ∙ (told_tied i may new).1 ∙ h.sum;
+      small = h.small;
+      room = omega (arith, some, room);
+      ready = λ x. h.ready (omega (arith, some));
+    }
+  where
+    Follows : Item → Tables Sending → Type 0
+    Follows j x = AreTied x (with_piece (with_pending m next ps) next (Told j)) × (sent_sum (lanes_of x) ≡ sent_sum (lanes_of t))
+
+    blocked : (j : Item) (n : ℕ) → MayTell (lanes_of t) j → (IsCarried (with_pending m next ps) (Told j) → ⊥) → (o : Option Sending) → lookup t n ≡ o → Follows j (updated t n after_blocked o)
+    blocked j n told new None e = (ties_item_put t (with_pending m next ps) next j h.tied told new, refl)
+    blocked j n told new (Some s) e =
+        (let tied = ties_item_put t (with_pending m next ps) next j h.tied told new in (
+          ties_updated t (with_piece (with_pending m next ps) next (Told j)) n s (after_blocked s) tied e (tied_blocked (with_piece (with_pending m next ps) next (Told j)) n s (tied.lanes n s e)) (λ x. x),
+          ap sent_sum (update_lanes t n (after_blocked s)) ∙ (let sums = total_update (λ (l : SendLane). l.sent_end) (lanes_of t) n s.lane (blocked_lane s.lane) (lane_there t n s e) in omega (arith, sums)),
+        ))
+
+    told_tied : (j : Item) → MayTell (lanes_of t) j → (IsCarried (with_pending m next ps) (Told j) → ⊥) → Follows j (halves_told j t)
+    told_tied (StreamDataBlocked n x) told new = blocked (StreamDataBlocked n x) n told new (lookup t n) refl
+    told_tied j told new = (ties_item_put t (with_pending m next ps) next j h.tied told new, refl)
+
+below_put : (m : Records) (k : ℕ) (ps : List Piece) → AreBelow m k → AreBelow (with_pending m k ps) (k + 1)
+below_put m k [] below j has = omega (arith, below j has)
+below_put m k (p ∷ ps) below j has =
+    elim (cases_eq j k) [
+      | inl same ↦ omega (arith, same)
+      | inr ne ↦ omega (arith, below j (ap is_some (sym (get_other m k (p ∷ ps) j ne)) ∙ has))
+    ]
+
+pub box_committed : (t : Tables Sending) (m m' : Records) (r r' : Bool) (ps qs : List Piece) (next sent spare free free' : ℕ) → IsOutbox t m r ps next sent spare free → m' ≡ with_pending m next ps → qs ≡ [] → IsOutbox t m' r' qs (next + 1) sent 0 free'
+box_committed t m m' r r' ps qs next sent spare free free' h put none = grind (arith, nat_tests, below_put)
+
+-- Values
+
+pub chunk_value : (e now : Outgoing) (t t' : Tables Sending) (m : Records) (ps qs : List Piece) (n spare : ℕ) (c : Chunk) → e ≡ now → e.sends ≡ lanes_of t → e.outstanding ≡ with_pending m e.next ps → AreBelow m e.next → spare ≡ e.spare - 1
+    → t' ≡ updated t n (λ x. after_sent x c) (lookup t n) → qs ≡ ps ++ Data n c ∷ []
+    → ◌≡◌ {A = Outgoing} (record e { sends = lanes_of t'; outstanding = with_pending m e.next qs; spare = spare }) (chunk_put n c now)
+chunk_value e now t t' m ps qs n spare c is sends out below less halves pushed = grind (arith, nat_tests, lanes_updated, one_more)
+
+told_lanes : (i : Item) (t : Tables Sending) → lanes_of (halves_told i t) ≡ blocked_noted i (lanes_of t)
+told_lanes i t = grind (arith, nat_tests, lanes_updated)
+
+pub item_value : (e now : Outgoing) (t t' : Tables Sending) (m : Records) (ps qs : List Piece) (spare : ℕ) (i : Item) → e ≡ now → e.sends ≡ lanes_of t → e.outstanding ≡ with_pending m e.next ps → AreBelow m e.next → spare ≡ e.spare - 1
+    → t' ≡ halves_told i t → qs ≡ ps ++ Told i ∷ []
+    → ◌≡◌ {A = Outgoing} (record e { sends = lanes_of t'; outstanding = with_pending m e.next qs; spare = spare }) (item_put_out i now)
+item_value e now t t' m ps qs spare i is sends out below less halves pushed = grind (arith, nat_tests, told_lanes, one_more)
+
+pub same_half : (e now : Outgoing) (t : Tables Sending) (n : ℕ) (s : Sending) → e ≡ now → e.sends ≡ lanes_of t → lookup t n ≡ Some s → or_none (lookup now.sends n) ≡ s.lane
+same_half e now t n s is sends there = ap (λ x. or_none (lookup x n)) (ap (λ (o : Outgoing). o.sends) (sym is) ∙ sends) ∙ ap or_none (lane_there t n s there)
+
+pub due_half : (o : Outgoing) (n : ℕ) (s : Sending) (c : Chunk) → ((x : Sending) × HasSending o n x × IsDueChunk x c) → HasSending o n s → IsDueChunk s c
+due_half o n s c h g = subst (λ (x : Sending). IsDueChunk x c) (same_sending o n h.0 s h.1 g) h.2
+
+pub open_half : (o : Outgoing) (n : ℕ) (c : Chunk) → ((x : Sending) × HasSending o n x × IsDueChunk x c) → is_some (lookup o.sends n) ≡ true
+open_half o n c h = ap is_some h.1.lane
+
+pub sum_now : (e now : Outgoing) (t t' : Tables Sending) (n : ℕ) (c : Chunk) → e ≡ now → e.sends ≡ lanes_of t → t' ≡ updated t n (λ y. after_sent y c) (lookup t n) → sent_sum (on_lane n (λ l. sent_lane l c) now).sends ≡ sent_sum (lanes_of t')
+sum_now e now t t' n c is sends halves = grind (arith, nat_tests, lanes_updated)
+
+pub idle_committed : (t : Tables Sending) (m' : Records) (r' : Bool) (qs : List Piece) (k sent free' : ℕ) → IsOutbox t m' r' qs k sent 0 free' → qs ≡ [] → fmap.get (with_pending m' k qs) k ≡ None
+idle_committed t m' r' qs k sent free' h none = subst (λ x. fmap.get (with_pending m' k x) k ≡ None) (sym none) (none_above m' k h.below)
+
+pub told_now : (e now : Outgoing) (t : Tables Sending) (i : Item) → e ≡ now → e.sends ≡ lanes_of t → MayTell now.sends i → MayTell (lanes_of t) i
+told_now e now t i is sends h = subst (λ x. MayTell x i) sends (subst (λ (o : Outgoing). MayTell o.sends i) (sym is) h)

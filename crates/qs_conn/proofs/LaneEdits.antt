@@ -1,31 +1,160 @@
--- One receiving lane among those of its type is edited; some are opened, or taken away.
-use Rattle.std.proofs.Common.{◌≡◌, ℕ, ◌+◌, ◌-◌, ◌/◌, ◌%◌, ◌<◌, ◌≤◌, ◌^◌, true, false, is_some, List, [], ◌∷◌, ◌++◌, length, get_or, map, take, replicate, refl, ap, sym, ◌∙◌, arith, subst}
-use Rattle.std.specs.Prelude.{slice_set}
-use Rattle.std.specs.List.{slice_get, range_with_len, sum_by}
-use Rattle.std.proofs.Math.ListN.{set, length-set}
-use Rattle.std.proofs.lemmas.Option.{slice_get_read}
-use Rattle.std.proofs.lemmas.List.FromFn.{map-range_with_len_more, length-map-range_with_len}
-use Rattle.std.proofs.lemmas.List.{append_assoc, get_or_default, set-get_or, length-append, length-map, length-replicate, length-take}
-use Rattle.std.proofs.lemmas.List.Sums.{sum_by-set}
+-- A lane whose limit is the next one already.
+use Rattle.std.specs.FinSet as set
+use Rattle.qs_conn.specs.declared.send_marks.Task.TheVariants as tasks
+use Rattle.std.proofs.lemmas.Grind.{common_steps}
+use Rattle.std.proofs.Common.{◌≡◌, ◌≢◌, ℕ, zero, suc, ◌+◌, ◌<◌, ◌≤◌, ◌⊎◌, inl, inr, Bool, false, ◌&&◌, ◌||◌, List, [], ◌∷◌, ◌++◌, length, map, take, replicate, Some, refl, ap, sym, ◌∙◌, arith, subst, min, nat_le, nat_lt, eqb, get_or, slice_get, ◌-◌, ◌/◌, ◌%◌, ◌^◌, true, is_some, ◌*◌, None, ◌==◌, unwrap_or, Option, Result, cond}
+use Rattle.qs_conn.proofs.Untolds.{of_mapped, is_marked_now, unmarked_before}
+use Rattle.qs_conn.proofs.Marked.{padded, noted_again, noted_opened, noted_fewer, noted_raised}
+use Rattle.std.proofs.lemmas.List.{get_or-take, append_assoc, get_or_default, set-get_or, length-append, length-map, length-replicate, length-take, get_or-set_same}
+use Rattle.std.proofs.lemmas.Option.{none-some, same_Some, slice_get_read, slice_get_within, slice_get-map, slice_get_cases, get_or_from_slice_get}
+use Rattle.std.proofs.lemmas.Bool.Decides.{nat_tests}
+use Rattle.std.proofs.lemmas.Bool.{cases_eq, cond_both}
+use Rattle.std.proofs.Math.ListN.{set, length-set, set as set_list}
 use Rattle.std.proofs.Math.Seq.{take-append_seam}
-use Rattle.qs_ranges.specs.Numbers.{MAX_VARINT}
-use Rattle.qs_recv.specs.Lane.{MAX_WINDOW, RecvLane, new_lane, highest, taken, noted, raise}
-use Rattle.qs_recv.specs.Lawful.{IsLawful}
+use Rattle.qs_ranges.specs.Numbers.{MAX_VARINT, contains-with_range, contains-without_range, numbers, missing_from}
+use Rattle.qs_recv.specs.Lane.{MAX_WINDOW, RecvLane, new_lane, step, raise, taken, take_stream, set_window, highest, noted, raise_answer, raised_limit}
 use Rattle.qs_recv.specs.declared.credit.Share.{Share}
+use Rattle.qs_conn.specs.declared.touches.Touches.{Touches}
+use Rattle.qs_conn.specs.declared.touches.Touched.{Touched}
+use Rattle.qs_conn.specs.RecvEdits.{IsCalm, wrapped, with_part, with_parts, added, IsTallyOf, IsEdited, IsEditedIn, AreKept}
+use Rattle.qs_conn.specs.Touches.{is_among, is_touched, IsSettled, AreSettled, IsTaken}
+use Rattle.std.specs.Prelude.{slice_set}
+use Rattle.std.specs.List.{range_with_len, sum_by}
+use Rattle.std.proofs.lemmas.List.FromFn.{map-range_with_len_more, length-map-range_with_len}
+use Rattle.std.proofs.lemmas.List.Sums.{sum_by-set}
+use Rattle.qs_recv.specs.Lawful.{IsLawful as IsLawfulRecv}
 use Rattle.qs_recv.specs.declared.credit.Share.TheVariants.{Half}
 use Rattle.qs_machine.specs.declared.tally.Tally.{Tally}
-use Rattle.qs_conn.specs.declared.touches.Touches.{Touches}
 use Rattle.qs_conn.specs.declared.recv_marks.RecvTask.{RecvTask}
 use Rattle.qs_conn.specs.declared.recv_marks.RecvMarks.{RecvMarks}
-use Rattle.qs_machine.specs.Tables.{lookup, total, widened}
-use Rattle.qs_machine.specs.Sums.{changed, stored_on, tally_of, tally_on, tables_of, EachLawful, IsPaid}
-use Rattle.qs_conn.specs.RecvEdits.{IsCalm, wrapped, with_part, with_parts, added, IsTallyOf, IsEdited, IsEditedIn, AreKept}
-use Rattle.qs_conn.specs.RecvTasks.{has, marks_of}
-use Rattle.qs_conn.specs.Touches.{is_touched}
+use Rattle.qs_machine.specs.Tables.{lookup, total, widened, Tables, updated}
+use Rattle.qs_machine.specs.Sums.{changed, stored_on, tally_of, tally_on, tables_of, EachLawful, IsPaid, no_sending}
+use Rattle.qs_conn.specs.RecvTasks.{has as recv_has, marks_of as recv_marks_of}
 use Rattle.qs_machine.proofs.TableEdits.{lane_is, open_there, total_four, updated_is}
 use Rattle.qs_machine.proofs.Counts.{each_paid, lawful_set, lawful_append, lawful_begun, lawful_take, lawful_raised, tally_opened, tally_raised}
-use Rattle.qs_conn.proofs.RecvNews.{noted_again, noted_opened, noted_fewer, noted_raised}
-use Rattle.qs_conn.proofs.Settling.{are_moved, are_opened, are_taken, still_settled}
+use Rattle.qs_conn.specs.Untold.{HasMore, IsRaisedMarked, AreRaisedMarked}
+use Rattle.std.specs.Option.{IfSome}
+use Rattle.std.specs.Result.{OnOk, OnErr, IfOk, IfErr}
+use Rattle.qs_ranges.proofs.Sets.{outside}
+use Rattle.qs_send.specs.Chunks.{IsDueChunk, WasSent}
+use Rattle.qs_send.specs.Halves.{half_at, over_sending, IsOver}
+use Rattle.qs_send.specs.Lane.{Sending, SendLane, accepted, refusal, finish_lane, after_write, after_finish, after_sent, after_acked, reset_refusal, state, after_reset, after_stopped, after_asked, after_stop, after_lost, after_allow, after_buffer, after_blocked, broken_off, first_code}
+use Rattle.qs_send.specs.Sound.{IsLawful}
+use Rattle.qs_send.specs.Writable.{is_writable}
+use Rattle.qs_send.specs.declared.parts.Chunk.{Chunk}
+use Rattle.qs_send.specs.declared.parts.SendFault.{SendFault}
+use Rattle.qs_send.specs.declared.parts.SendFault.TheVariants.{NoMemory, Finished}
+use Rattle.qs_send.proofs.Steps.{write_nothing, rest_missing, rest_acked, rest_lost}
+use Rattle.qs_machine.specs.Credit.{send_ended}
+use Rattle.qs_conn.specs.Tasks.{IsStill, IsStillButEnd, IsStillButSent, has, is_due_below, AreAllMarked, AreMarksOf, marks_of}
+use Rattle.qs_conn.proofs.Tasks.{sent_promises, promised_of, kept_of, sums_same, none_again, no_fin_again, quiet_again, all_looked, marks_read, none_below}
+use Rattle.std.specs.Ordering.{nat_cmp}
+use Rattle.qs_send.specs.declared.parts.SendState.{SendState}
+use Rattle.qs_send.specs.declared.parts.SendState.TheVariants.{ResetSent}
+use Rattle.qs_send.proofs.Slots.{none_goes}
+use Rattle.qs_conn.specs.declared.send_marks.Task.{Task}
+use Rattle.qs_conn.specs.declared.send_marks.SendMarks.{SendMarks}
+use Rattle.qs_conn.specs.Promised.{AreSums}
+
+-- One lane
+
+abbrev most : ℕ → ℕ → ℕ
+most t w = min MAX_VARINT (t + w)
+
+-- whether the limit moves
+abbrev moves : ℕ → ℕ → ℕ → Share → Bool
+moves l t w share = nat_le (l + step share w) (most t w) || (eqb (most t w) MAX_VARINT && nat_lt l (most t w))
+
+pub raised_twice : (l : RecvLane) → IsSettled (raise l)
+raised_twice l = grind (arith, nat_tests)
+
+pub new_settled : (w : ℕ) (share : Share) → 1 ≤ w → w ≤ MAX_WINDOW → IsSettled (new_lane w share)
+new_settled w share some small = grind (arith, nat_tests)
+
+-- a frame that moves nothing that was taken raises no limit
+pub stream_settled : (l : RecvLane) (offset : ℕ) (bytes : List ℕ) (fin : Bool) → taken (take_stream l offset bytes fin) ≡ taken l → IsSettled l → IsSettled (take_stream l offset bytes fin)
+stream_settled l offset bytes fin took was = grind (arith, nat_tests)
+
+pub calm_window : (l : RecvLane) (w : ℕ) → IsCalm l (set_window l w)
+calm_window l w = grind (arith, common_steps)
+
+-- All lanes
+
+pub settled_raise : (x : RecvLane) → IsSettled x → raise x ≡ x
+settled_raise x is = ap (λ k. record x { limit = k }) is
+
+pub each_settled : (xs : List RecvLane) → ((i : ℕ) (l : RecvLane) → slice_get xs i ≡ Some l → IsSettled l) → map raise xs ≡ xs
+each_settled [] all = refl
+each_settled (x ∷ xs) all = ap (λ y. y ∷ map raise xs) (settled_raise x (all 0 x refl)) ∙ ap (λ ys. x ∷ ys) (each_settled xs (λ i l at. all (suc i) l at))
+
+-- no lane was touched
+pub none_raised : (t : Touches) (xs : List RecvLane) → AreSettled t xs → ((i : ℕ) → is_touched t i ≡ false) → map raise xs ≡ xs
+none_raised t xs settled none = each_settled xs (λ i l at. settled i l at (none i))
+
+pub raised_once : (xs : List RecvLane) → map raise (map raise xs) ≡ map raise xs
+raised_once [] = refl
+raised_once (x ∷ xs) = ap (λ y. y ∷ map raise (map raise xs)) (settled_raise (raise x) (raised_twice x)) ∙ ap (λ ys. raise x ∷ ys) (raised_once xs)
+
+-- one lane becomes another
+
+pub get_other : {X : Type 0} (xs : List X) (i j : ℕ) (y : X) → j ≢ i → slice_get (set xs i y) j ≡ slice_get xs j
+get_other (x ∷ xs) zero zero y ne = absurd (ne refl)
+get_other (x ∷ xs) (suc i) (suc j) y ne = get_other xs i j y (λ e. ne (ap suc e))
+get_other _ _ _ _ _ = refl
+
+pub get_same : {X : Type 0} (xs : List X) (i : ℕ) (y l : X) → slice_get (set xs i y) i ≡ Some l → (y ≡ l) × (i < length xs)
+get_same [] i y l at = absurd (none-some l at)
+get_same (x ∷ xs) zero y l at = (same_Some y l at, omega arith)
+get_same (x ∷ xs) (suc i) y l at = let (is, lt) = get_same xs i y l at in (is, omega (arith, lt))
+
+-- a lane becomes another, and is touched where what was taken of it moved
+pub are_moved : (t new : Touches) (xs : List RecvLane) (i : ℕ) (x y : RecvLane) → i < length xs → x ≡ get_or xs i x → length t.marks ≡ length xs → IsCalm x y
+    → ((j : ℕ) → j < length t.marks → is_touched new j ≡ false → (is_touched t j ≡ false) × (j ≡ i → taken y ≡ taken x)) → AreSettled t xs → AreSettled new (set xs i y)
+are_moved t new xs i x y there at room calm touched each j l found free =
+    let in_xs : j < length xs = omega (arith, slice_get_within (set xs i y) j l found, length-set xs i y) in
+    let (was, still) = touched j (omega (arith, room, in_xs)) free in
+    elim (cases_eq j i) [
+      | inl e ↦
+          (let (is, lt) = get_same xs i y l (ap (slice_get (set xs i y)) (sym e) ∙ found) in
+          subst IsSettled is (calm.settled (still e) (each i x (slice_get_read xs (length xs) i x refl lt at) (subst (λ k. is_touched t k ≡ false) e was))))
+      | inr ne ↦ each j l (sym (get_other xs i j y ne) ∙ found) was
+    ]
+
+-- lanes are opened
+
+get_seam : {X : Type 0} (xs ys : List X) (j : ℕ) (l : X) → slice_get (xs ++ ys) j ≡ Some l → (slice_get xs j ≡ Some l) ⊎ ((k : ℕ) × (slice_get ys k ≡ Some l))
+get_seam [] ys j l at = inr (j, at)
+get_seam (x ∷ xs) ys zero l at = inl at
+get_seam (x ∷ xs) ys (suc j) l at = get_seam xs ys j l at
+
+among_more : (k : Touched) (ms : List Bool) (n i : ℕ) → is_among k ms i ≡ is_among k (ms ++ replicate n false) i
+among_more k ms n i = grind (arith, nat_tests, padded)
+
+pub are_opened : (t new : Touches) (xs : List RecvLane) (w n : ℕ) (share : Share) (ks : List ℕ) → 1 ≤ w → w ≤ MAX_WINDOW → new.lanes ≡ t.lanes → new.marks ≡ t.marks ++ replicate n false → AreSettled t xs → AreSettled new (xs ++ map (λ (i : ℕ). new_lane w share) ks)
+are_opened t new xs w n share ks some small lanes marks each j l there free = grind (arith, nat_tests, get_seam, among_more, slice_get-map)
+
+-- lanes are taken away
+
+get_taken : {X : Type 0} (n : ℕ) (xs : List X) (j : ℕ) (l : X) → slice_get (take n xs) j ≡ Some l → (slice_get xs j ≡ Some l) × (j < n)
+get_taken (suc n) (x ∷ xs) zero l at = (at, omega arith)
+get_taken (suc n) (x ∷ xs) (suc j) l at = let (there, lt) = get_taken n xs j l at in (there, omega (arith, lt))
+get_taken _ _ _ l at = absurd (none-some l at)
+
+among_taken : (k : Touched) (n : ℕ) (ms : List Bool) (i : ℕ) → i < n → is_among k ms i ≡ is_among k (take n ms) i
+among_taken k n ms i lt = grind (arith, nat_tests, get_or-take)
+
+pub are_taken : (t new : Touches) (n : ℕ) (xs : List RecvLane) → new.lanes ≡ t.lanes → new.marks ≡ take n t.marks → AreSettled t xs → AreSettled new (take n xs)
+are_taken t new n xs lanes marks each j l there free = grind (arith, nat_tests, get_taken, among_taken)
+
+-- what was opened is taken back
+pub touched_back : (t now : Touches) (n k : ℕ) → now.lanes ≡ t.lanes → now.marks ≡ take n (t.marks ++ replicate k false) → n ≡ length t.marks → now ≡ t
+touched_back t now n k lanes marks len = grind (arith, nat_tests, take-append_seam)
+
+-- no lane has a limit to be raised once all were
+pub still_settled : (xs : List RecvLane) (t : Touches) → AreSettled t (map raise xs)
+still_settled xs t i l at free = of_mapped raise (slice_get xs i) IsSettled (λ x there. raised_twice x) l (sym (slice_get-map raise xs i) ∙ at)
+
+-- ---- One receiving lane among those of its type is edited; some are opened, or taken away.
 
 -- One lane becomes another
 
@@ -36,9 +165,9 @@ module _ (xs : List RecvLane) (i : ℕ) (x y : RecvLane) (there : i < length xs)
   part_set : (f : RecvLane → ℕ) (t : ℕ) → f x ≤ 2 ^ 64 → t ≡ sum_by f xs % 2 ^ 64 → with_part t (f x) (f y) ≡ sum_by f (set xs i y) % 2 ^ 64
   part_set f t small is = part_moved (sum_by f xs) (sum_by f (set xs i y)) (f x) (f y) t small (ap (λ k. sum_by f (set xs i y) + k) (ap f at) ∙ sum_by-set f xs i y x there) is
 
-  pub edited : (t was part now : Tally) (touched next : Touches) (marks looked : RecvMarks) → AreKept xs t touched marks → was ≡ tally_of x → part ≡ tally_of y → now ≡ with_parts t was part → was.spent ≤ MAX_VARINT → IsPaid was → IsLawful y
+  pub edited : (t was part now : Tally) (touched next : Touches) (marks looked : RecvMarks) → AreKept xs t touched marks → was ≡ tally_of x → part ≡ tally_of y → now ≡ with_parts t was part → was.spent ≤ MAX_VARINT → IsPaid was → IsLawfulRecv y
       → IsCalm x y → length next.marks ≡ length touched.marks → ((j : ℕ) → j < length touched.marks → is_touched next j ≡ false → (is_touched touched j ≡ false) × (j ≡ i → was.taken ≡ part.taken))
-      → ((k : RecvTask) → marks_of looked k ≡ slice_set (marks_of marks k) i (has k y)) → AreKept (set xs i y) now next looked
+      → ((k : RecvTask) → recv_marks_of looked k ≡ slice_set (recv_marks_of marks k) i (recv_has k y)) → AreKept (set xs i y) now next looked
   edited t was part now touched next marks looked kept was_is part_is now_is small paid lawful calm room moved again =
       let spent : highest x ≤ 2 ^ 64 = omega (arith, small, ap (λ (k : Tally). k.spent) was_is) in
       let took : taken x ≤ 2 ^ 64 = omega (arith, small, paid.moved, ap (λ (k : Tally). k.taken) was_is) in
@@ -81,64 +210,30 @@ edited_in leaves ls n k i d ys r len kind index is_open e =
 
 -- The sums over all types
 
--- a sum of four that has a number of 64 bits
-sum_is : (a b c d t : ℕ) → t ≡ a + b + c + d → t < 2 ^ 62 → (a % 2 ^ 64 + b % 2 ^ 64 + c % 2 ^ 64 + d % 2 ^ 64) % 2 ^ 64 ≡ t
-sum_is a b c d t is small = omega (arith, is, small)
-
 pub summed : (ls : List (List RecvLane)) (k l m n : List RecvLane) → length ls ≡ 4 → EachLawful (get_or ls 0 k) → EachLawful (get_or ls 1 l) → EachLawful (get_or ls 2 m) → EachLawful (get_or ls 3 n)
     → {a b c d : Tally} → a ≡ wrapped (tally_on (get_or ls 0 k)) → b ≡ wrapped (tally_on (get_or ls 1 l)) → c ≡ wrapped (tally_on (get_or ls 2 m)) → d ≡ wrapped (tally_on (get_or ls 3 n))
     → total highest (tables_of ls) < 2 ^ 62 → (t : Tally) → t ≡ added a b c d → IsTallyOf (tables_of ls) t
-summed ls k l m n len p q r s a_is b_is c_is d_is small t is =
-    let is' = is ∙ rw (a_is, b_is, c_is, d_is) refl in
-    let spent = total_four highest ls k l m n len in
-    let took = total_four taken ls k l m n len in
-    let stored = total_four stored_on ls k l m n len in
-    let notes = total_four noted ls k l m n len in
-    let pa = each_paid (get_or ls 0 k) p in
-    let pb = each_paid (get_or ls 1 l) q in
-    let pc = each_paid (get_or ls 2 m) r in
-    let pd = each_paid (get_or ls 3 n) s in
-    let paid : total stored_on (tables_of ls) + total taken (tables_of ls) ≤ total highest (tables_of ls) = omega (arith, spent, took, stored, pa.moved, pb.moved, pc.moved, pd.moved) in
-    let few : total noted (tables_of ls) ≤ total highest (tables_of ls) = omega (arith, spent, notes, pa.noted, pb.noted, pc.noted, pd.noted) in
-    let spent_is = ap (λ (x : Tally). x.spent) is' ∙ sum_is _ _ _ _ _ spent small in
-    let took_is = ap (λ (x : Tally). x.taken) is' ∙ sum_is _ _ _ _ _ took (omega (arith, paid, small)) in
-    let stored_is = ap (λ (x : Tally). x.stored) is' ∙ sum_is _ _ _ _ _ stored (omega (arith, paid, small)) in
-    let noted_is = ap (λ (x : Tally). x.noted) is' ∙ sum_is _ _ _ _ _ notes (omega (arith, few, small)) in
-    record {
-      spent = spent_is;
-      taken = took_is;
-      stored = stored_is;
-      noted = noted_is;
-      paid = record { moved = omega (arith, paid, spent_is, took_is, stored_is); noted = omega (arith, few, spent_is, noted_is) };
-    }
+summed ls k l m n len p q r s a_is b_is c_is d_is small t is = grind (arith, nat_tests, total_four, each_paid)
 
 -- Lanes open
 
 pub opened : (xs now : List RecvLane) (t now_t : Tally) (touched now_touched : Touches) (marks now_marks : RecvMarks) (w : ℕ) (share : Share) (n m count : ℕ) → 1 ≤ w → w ≤ MAX_WINDOW → count ≤ 2 ^ 60 → n ≤ m → m ≤ n → m ≡ count - length xs
     → now ≡ xs ++ map (λ (i : ℕ). new_lane w share) (range_with_len (length xs) n) → now_t ≡ t → now_touched.lanes ≡ touched.lanes → now_touched.marks ≡ touched.marks ++ replicate (count - length touched.marks) false
-    → ((k : RecvTask) → marks_of now_marks k ≡ marks_of marks k ++ replicate (count - length (marks_of marks k)) false) → AreKept xs t touched marks → AreKept now now_t now_touched now_marks
+    → ((k : RecvTask) → recv_marks_of now_marks k ≡ recv_marks_of marks k ++ replicate (count - length (recv_marks_of marks k)) false) → AreKept xs t touched marks → AreKept now now_t now_touched now_marks
 opened xs now t now_t touched now_touched marks now_marks w share n m count some small few le ge missing is same_t lanes ms news was =
     let more = length-map-range_with_len (λ (i : ℕ). new_lane w share) (length xs) n in
     let len = length-append xs (map (λ (i : ℕ). new_lane w share) (range_with_len (length xs) n)) in
     let notes = noted_opened w share xs now marks now_marks count n m is le ge missing news was.noted in
-    record {
-      counted = same_t ∙ was.counted ∙ ap wrapped (sym (ap tally_on is ∙ tally_opened xs w share (range_with_len (length xs) n)));
-      lawful = rw is (lawful_append xs _ was.lawful (lawful_begun w share (range_with_len (length xs) n) some small));
-      settled = rw is (are_opened touched now_touched xs w (count - length touched.marks) share (range_with_len (length xs) n) some small lanes ms was.settled);
-      room = ap length ms ∙ length-append touched.marks (replicate (count - length touched.marks) false) ∙ omega (arith, was.room, le, ge, missing, len, more, ap length is, length-replicate (count - length touched.marks) false);
-      few = omega (arith, few, le, ge, missing, was.few, len, more, ap length is);
-      noted = notes;
-    }
+    grind (arith, nat_tests, tally_opened, lawful_append, lawful_begun, are_opened, length-append, length-replicate)
 
 -- what was opened is taken back
-pub undone : (xs now : List RecvLane) (t now_t : Tally) (touched now_touched : Touches) (marks now_marks : RecvMarks) → now ≡ xs → now_t ≡ t → now_touched ≡ touched → ((k : RecvTask) → marks_of now_marks k ≡ marks_of marks k)
+pub undone : (xs now : List RecvLane) (t now_t : Tally) (touched now_touched : Touches) (marks now_marks : RecvMarks) → now ≡ xs → now_t ≡ t → now_touched ≡ touched → ((k : RecvTask) → recv_marks_of now_marks k ≡ recv_marks_of marks k)
     → AreKept xs t touched marks → AreKept now now_t now_touched now_marks
-undone xs now t now_t touched now_touched marks now_marks a b c d h =
-    rw (a, b, c) (record { counted = h.counted; lawful = h.lawful; settled = h.settled; room = h.room; few = h.few; noted = λ k. d k ∙ h.noted k })
+undone xs now t now_t touched now_touched marks now_marks a b c d h = grind (arith, nat_tests)
 
 -- some lanes leave, which nothing came for
 pub fewer : (n : ℕ) (xs : List RecvLane) (t : Tally) (touched next : Touches) (marks left : RecvMarks) → tally_on (take n xs) ≡ tally_on xs → next.lanes ≡ touched.lanes → next.marks ≡ take n touched.marks
-    → ((k : RecvTask) → marks_of left k ≡ take n (marks_of marks k)) → AreKept xs t touched marks → AreKept (take n xs) t next left
+    → ((k : RecvTask) → recv_marks_of left k ≡ take n (recv_marks_of marks k)) → AreKept xs t touched marks → AreKept (take n xs) t next left
 fewer n xs t touched next marks left same lanes ms news h =
     record {
       counted = h.counted ∙ ap wrapped (sym same);
@@ -151,27 +246,253 @@ fewer n xs t touched next marks left same lanes ms news h =
 
 -- all limits are raised
 pub raised : (xs : List RecvLane) (t : Tally) (touched next : Touches) (marks : RecvMarks) → length next.marks ≡ length touched.marks → AreKept xs t touched marks → AreKept (map raise xs) t next marks
-raised xs t touched next marks room h =
-    record {
-      counted = h.counted ∙ ap wrapped (sym (tally_raised xs));
-      lawful = lawful_raised xs h.lawful;
-      settled = still_settled xs next;
-      room = rw length-map (room ∙ h.room);
-      few = rw length-map h.few;
-      noted = noted_raised xs marks h.noted;
-    }
+raised xs t touched next marks room h = grind (arith, nat_tests, tally_raised, lawful_raised, still_settled, length-map, noted_raised)
 
 pub opened_more : {X : Type 0} (xs now : List X) (f : ℕ → X) (n : ℕ) (x : X) → now ≡ xs ++ map f (range_with_len (length xs) n) → x ≡ f (length xs + n) → now ++ x ∷ [] ≡ xs ++ map f (range_with_len (length xs) (n + 1))
-opened_more xs now f n x is at =
-    ap (λ l. l ++ x ∷ []) is
-    ∙ append_assoc xs (map f (range_with_len (length xs) n)) (x ∷ [])
-    ∙ ap (λ y. xs ++ (map f (range_with_len (length xs) n) ++ y ∷ [])) at
-    ∙ ap (λ l. xs ++ l) (sym (map-range_with_len_more f (length xs) n (length xs + n) refl))
+opened_more xs now f n x is at = grind (arith, nat_tests, append_assoc, map-range_with_len_more)
 
 pub opened_back : {X : Type 0} (xs now more : List X) (m : ℕ) → now ≡ xs ++ more → m ≡ length xs → take m now ≡ xs
 opened_back xs now more m is at = ap (λ k. take k now) at ∙ ap (take (length xs)) is ∙ take-append_seam xs more
 
 pub opened_all : {X : Type 0} (xs now : List X) (f : ℕ → X) (n m count len : ℕ) → now ≡ xs ++ map f (range_with_len (length xs) n) → n ≤ m → m ≤ n → m ≡ count - len → len ≡ length xs → now ≡ widened xs count f
-opened_all xs now f n m count len is le ge at same =
-    let e : n ≡ count - length xs = omega (arith, le, ge, at, same) in
-    is ∙ ap (λ k. xs ++ map f (range_with_len (length xs) k)) e
+opened_all xs now f n m count len is le ge at same = grind (arith, nat_tests)
+
+-- ---- Receiving lanes that are raised one by one, and marked.
+
+-- Raised lanes are marked
+
+-- a limit that didn't rise is the next one already
+pub not_raised : (l : RecvLane) → ((v : ℕ) → raise_answer l ≡ Some v → ⊥) → raise l ≡ l
+not_raised l none = cond_both (nat_lt l.limit (raised_limit l)) (Some (raised_limit l)) None (λ o. ((v : ℕ) → o ≡ Some v → ⊥) → raise l ≡ l) (λ up some. absurd (some (raised_limit l) refl)) (λ stays _. settled_raise l (grind (arith, nat_tests, stays))) none
+
+pub raised_none : (kind : ℕ) (xs : List RecvLane) (marks : Tables Bool) (i : ℕ) (x : RecvLane) → i < length xs → x ≡ get_or xs i x → raise_answer x ≡ None → IsRaisedMarked kind xs marks i
+raised_none kind xs marks i x lt at none l there free = subst (λ k. raise k ≡ k) (at ∙ get_or_from_slice_get xs i l x there) (not_raised x (λ v is. none-some v (sym none ∙ is)))
+
+pub raised_some : (kind : ℕ) (xs : List RecvLane) (marks marks' : Tables Bool) (i n : ℕ) → n ≡ i * 4 + kind → marks' ≡ updated marks n (λ b. true) (lookup marks n) → IsRaisedMarked kind xs marks' i
+raised_some kind xs marks marks' i n is are l there free = grind (arith, nat_tests, is_marked_now)
+
+-- Lanes are raised one after the other, as they were touched
+
+-- What stands between: the lanes that were touched and those that were raised are raised at the end, all others are settled, and a lane
+-- without a mark is as it was.
+pub record AreRaisedSoFar (kind : ℕ) (xs now : List RecvLane) (t : Touches) (marks : Tables Bool) : Type 0 where
+  pub raised : map raise now ≡ map raise xs
+  pub len : length now ≡ length xs
+  pub settled : AreSettled t now
+  pub same : (i : ℕ) (l : RecvLane) → slice_get xs i ≡ Some l → lookup marks (i * 4 + kind) ≡ Some false → slice_get now i ≡ Some l
+
+pub none_yet : (kind : ℕ) (xs : List RecvLane) (t : Touches) (marks : Tables Bool) → AreSettled t xs → AreRaisedSoFar kind xs xs t marks
+none_yet kind xs t marks settled = record { raised = refl; len = refl; settled = settled; same = λ i l at free. at }
+
+raise_again : (xs : List RecvLane) (k : ℕ) (x : RecvLane) → slice_get xs k ≡ Some x → map raise (set xs k (raise x)) ≡ map raise xs
+raise_again [] k x at = absurd (none-some x at)
+raise_again (z ∷ xs) zero x at = ap (λ l. l ∷ map raise xs) (settled_raise (raise x) (raised_twice x) ∙ ap raise (sym (same_Some z x at)))
+raise_again (z ∷ xs) (suc k) x at = ap (λ ls. raise z ∷ ls) (raise_again xs k x at)
+
+-- one lane more is raised
+pub one_more : (kind : ℕ) (xs ys now : List RecvLane) (t new : Touches) (marks marks' : Tables Bool) (k : ℕ) → AreRaisedSoFar kind xs ys t marks → k < length ys → IsTaken t (Some k) new → now ≡ changed ys k raise (slice_get ys k)
+    → HasMore marks marks' → IsRaisedMarked kind ys marks' k → AreRaisedSoFar kind xs now new marks'
+one_more kind xs ys now t new marks marks' k far lt taken is more here =
+    elim (slice_get_cases ys k).1 [
+      | inl (x, in_list, there, read) ↦
+          (let at : now ≡ set ys k (raise x) = is ∙ ap (changed ys k raise) there in
+          rw at (
+          record {
+            raised = raise_again ys k x there ∙ far.raised;
+            len = length-set ys k (raise x) ∙ far.len;
+            settled =
+                λ j l in_now free.
+                elim (cases_eq j k) [
+                  | inl e ↦ subst IsSettled (get_same ys k (raise x) l (ap (slice_get (set ys k (raise x))) (sym e) ∙ in_now)).0 (raised_twice x)
+                  | inr ne ↦ elim (taken j free) [ inl e ↦ absurd (ne e) | inr was ↦ far.settled j l (sym (get_other ys k j (raise x) ne) ∙ in_now) was ]
+                ];
+            same =
+                λ j l in_xs free.
+                let before = far.same j l in_xs (unmarked_before marks marks' (j * 4 + kind) more free) in
+                elim (cases_eq j k) [
+                  | inl e ↦
+                      (let is_l : l ≡ x = same_Some l x (sym before ∙ ap (slice_get ys) e ∙ there) in
+                      let still : raise x ≡ x = here x there (subst (λ i. lookup marks' (i * 4 + kind) ≡ Some false) e free) in
+                      ap (λ y. slice_get (set ys k y) j) still ∙ set_same ys k j x there ∙ before)
+                  | inr ne ↦ get_other ys k j (raise x) ne ∙ before
+                ];
+          }))
+      | inr (past, none) ↦ absurd (omega (arith, lt, past))
+    ]
+  where
+    set_same : (zs : List RecvLane) (i j : ℕ) (z : RecvLane) → slice_get zs i ≡ Some z → slice_get (set zs i z) j ≡ slice_get zs j
+    set_same (y ∷ zs) zero zero z at = sym at
+    set_same (y ∷ zs) (suc i) (suc j) z at = set_same zs i j z at
+    set_same _ i j z at = refl
+
+-- a touched index that isn't one
+pub past_more : (kind : ℕ) (xs ys : List RecvLane) (t new : Touches) (marks : Tables Bool) (k : ℕ) → AreRaisedSoFar kind xs ys t marks → length ys ≤ k → IsTaken t (Some k) new → AreRaisedSoFar kind xs ys new marks
+past_more kind xs ys t new marks k far past taken = grind (arith, nat_tests, slice_get_within)
+
+-- no lane is left
+pub all_raised : (kind : ℕ) (xs now : List RecvLane) (t : Touches) (marks : Tables Bool) → AreRaisedSoFar kind xs now t marks → ((i : ℕ) → is_touched t i ≡ false) → now ≡ map raise xs
+all_raised kind xs now t marks far none = sym (none_raised t now far.settled none) ∙ far.raised
+
+pub none_marked : (kind : ℕ) (xs : List RecvLane) (t : Touches) (marks : Tables Bool) → AreSettled t xs → ((i : ℕ) → is_touched t i ≡ false) → AreRaisedMarked kind xs marks
+none_marked kind xs t marks settled none i l at free = settled_raise l (settled i l at (none i))
+
+pub all_marked : (kind : ℕ) (xs now : List RecvLane) (t : Touches) (marks : Tables Bool) → AreRaisedSoFar kind xs now t marks → ((i : ℕ) → is_touched t i ≡ false) → AreRaisedMarked kind xs marks
+all_marked kind xs now t marks far none i l at free = settled_raise l (far.settled i l (far.same i l at free) (none i))
+
+-- the lanes of all four types
+pub raised_tables : (ls : List (List RecvLane)) (a b c d e f g : List RecvLane) (t u v w : Tables Bool) → length ls ≡ 4 → AreRaisedMarked 0 (get_or ls 0 d) t → AreRaisedMarked 1 (get_or (set ls 0 a) 1 e) u → AreRaisedMarked 2 (get_or (set (set ls 0 a) 1 b) 2 f) v
+    → AreRaisedMarked 3 (get_or (set (set (set ls 0 a) 1 b) 2 c) 3 g) w → HasMore t u → HasMore u v → HasMore v w → (n : ℕ) (l : RecvLane) → lookup (tables_of ls) n ≡ Some l → lookup w n ≡ Some false → raise l ≡ l
+unfolding lookup
+raised_tables (x ∷ y ∷ z ∷ k ∷ []) a b c d e f g t u v w len p q r s tu uv vw n l at free = grind (arith, nat_tests)
+raised_tables _ a b c d e f g t u v w len p q r s tu uv vw n l at free = absurd (omega (arith, len))
+
+-- ---- Sending halves are opened and edited; some are over.
+
+-- a sending half is opened: its number
+pub id_is : (r : Option ℕ) (id number : ℕ) → r ≡ Some id → IfSome r (λ k. (k ≡ number) × (number < 2 ^ 62)) → id ≡ number
+id_is r id number is h = (rw is at h).0
+
+-- the half at an index is changed, or stays
+pub changed_is : (xs : List Sending) (i : ℕ) (f : Sending → Sending) → i < length xs → changed xs i f (slice_get xs i) ≡ set_list xs i (f (half_at xs i))
+changed_is xs i f there = sym (changed_at xs i (half_at xs i) (f (half_at xs i)) f there (get_or_default xs i no_sending (half_at xs i) there) refl)
+
+pub set_same : (xs : List Sending) (i : ℕ) → set_list xs i (half_at xs i) ≡ xs
+set_same xs i = set-get_or xs i no_sending
+
+pub wrote_none : (r : Result ℕ SendFault) (xs : List Sending) (i : ℕ) (bytes : List ℕ) → i < length xs → is_writable (half_at xs i).lane ≡ false → IfOk r (λ n. (refusal (half_at xs i).lane ≡ None) × (n ≡ 0))
+    → IfOk r (λ n. (refusal (half_at xs i).lane ≡ None) × (n ≡ accepted (half_at xs i).lane (length bytes)) × (xs ≡ changed xs i (λ s. after_write s (take n bytes)) (slice_get xs i)))
+wrote_none r xs i bytes there shut h = grind (arith, nat_tests, set_same, write_nothing, changed_is)
+
+-- What a change leaves that doesn't move all
+
+-- the end is acknowledged neither before nor after
+not_over : (l now : SendLane) → now.reset_acked ≡ l.reset_acked → l.fin_acked ≡ false → now.fin_acked ≡ false → send_ended now ≡ send_ended l
+not_over l now same before after = grind (arith, nat_tests)
+
+-- bytes that are written weren't sent before
+pub written_still : (s : Sending) (bytes : List ℕ) → IsLawful s → IsStill s (after_write s bytes)
+written_still s bytes law =
+    let w = s.lane.written in
+    let sent = law.order.sent_written in
+    record {
+      again = λ q. quiet_again (after_write s bytes) (λ k lt. contains-with_range s.due.offsets w (w + length bytes) k ∙ (let old = none_again s q k lt in let none = outside w (w + length bytes) k (inl (omega (arith, lt, sent))) in grind (arith, old)))
+          (λ whole. no_fin_again s q (omega (arith, whole, sent)));
+      ended = λ unacked. not_over s.lane (after_write s bytes).lane refl unacked unacked;
+      stopped = refl;
+    }
+
+pub wrote_still : (r : Result ℕ SendFault) (s now : Sending) (bytes : List ℕ) → IsLawful s → IfOk r (λ n. (refusal s.lane ≡ None) × (n ≡ accepted s.lane (length bytes)) × (now ≡ after_write s (take n bytes))) → IfErr r (λ fault. (now ≡ s) × (fault ≡ unwrap_or (refusal s.lane) NoMemory)) → IsStill s now
+wrote_still r s now bytes law ok err = grind (arith, nat_tests, written_still)
+
+-- a chunk that goes has the lowest due byte, and all from there on that are due below its end; and the end, where it reaches that
+pub sent_still : (s now : Sending) (c : Chunk) → IsLawful s → IsDueChunk s c → now ≡ after_sent s c → IsStillButSent s now
+sent_still s now c law is after = grind (arith, nat_tests, quiet_again, contains-without_range, sent_promises, none_again)
+
+-- an end that is asked for
+asked_again : (s : Sending) → (s.lane.sent_end == s.lane.written) ≡ false → has tasks.Again (record { lane = finish_lane s.lane; due = record { offsets = s.due.offsets; fin = true } }) ≡ has tasks.Again s
+unfolding is_due_below
+asked_again s short = grind (arith, nat_tests)
+
+pub finished_still : (s now : Sending) → IsLawful s → now ≡ after_finish s → IsStillButEnd s now
+finished_still s now law after = grind (arith, nat_tests, asked_again)
+
+-- what is acknowledged isn't sent again
+pub acked_still : {A E : Type 0} (r : Result A E) (s now : Sending) (c : Chunk) → OnOk r (now ≡ after_acked s c) → OnErr r (now ≡ s) → IsStill s now
+acked_still r s now c ok err = grind (arith, nat_tests, quiet_again, contains-without_range, none_again, not_over)
+
+-- A half that is over: no call but those that set its limit, its buffer or that it was blocked changes it
+
+-- a half that is lent is that at its index
+pub lent_at : (xs : List Sending) (i : ℕ) (x : Sending) → i < length xs → x ≡ half_at xs i → x ≡ get_or xs i x
+lent_at xs i x there is = is ∙ get_or_default xs i no_sending x there
+
+pub there_at : (xs : List Sending) (i : ℕ) → i < length xs → half_at xs i ≡ get_or xs i (half_at xs i)
+there_at xs i there = get_or_default xs i no_sending (half_at xs i) there
+
+whole_is : (n : ℕ) → ((missing_from (numbers 0 n) 0 == n) && true) ≡ true
+whole_is n = let e = rest_missing n in let same : (missing_from (numbers 0 n) 0 == n) ≡ true = grind (arith, nat_tests) in ap (λ b. b && true) same
+
+is_reset_sent : SendState → Bool
+is_reset_sent ResetSent = true
+is_reset_sent other = false
+
+module _ (s : Sending) (o : IsOver s) where
+  pub over_refused : refusal s.lane ≡ Some Finished
+  over_refused = ap (λ (t : Sending). refusal t.lane) o.is
+
+  pub over_reset_refused : reset_refusal s.lane ≡ Some Finished
+  over_reset_refused = ap (λ (t : Sending). reset_refusal t.lane) o.is ∙ ap (λ b. cond b (Some Finished) None) (whole_is o.written)
+
+  pub over_finish : after_finish s ≡ s
+  over_finish = ap (λ (r : Option SendFault). cond (is_some r) s (record { lane = finish_lane s.lane; due = record { offsets = s.due.offsets; fin = true } })) over_refused
+
+  pub over_reset : (code : ℕ) → after_reset s code ≡ s
+  over_reset code =
+      ap (λ (r : Option SendFault). (let after : Sending = record { lane = cond (is_some r) s.lane (broken_off s.lane code); due = cond (is_some r) s.due (record { offsets = set.empty; fin = false }) } in after)) over_reset_refused
+
+  pub over_stopped : (code : ℕ) → after_stopped s code ≡ s
+  over_stopped code =
+      ap (λ (r : Option SendFault). (let after : Sending = record { lane = cond (is_some r) s.lane (record (broken_off s.lane code) { stopped = first_code s.lane.stopped code }); due = cond (is_some r) s.due (record { offsets = set.empty; fin = false }) } in after)) over_reset_refused
+
+  over_told : (code : ℕ) → after_asked s code ≡ s
+  over_told code = ap (λ (r : Option SendFault). (let after : Sending = record s { lane = cond (is_some r) s.lane (record s.lane { stopped = first_code s.lane.stopped code }) } in after)) over_reset_refused
+
+  pub over_stop : (owner_answers : Bool) (code : ℕ) → after_stop owner_answers s code ≡ s
+  over_stop true code = over_told code
+  over_stop false code = over_stopped code
+
+  pub over_acked : (c : Chunk) → WasSent s.lane c → after_acked s c ≡ s
+  over_acked c was = grind (arith, nat_tests, rest_acked)
+
+  pub over_sent : (c : Chunk) → IsDueChunk s c → ⊥
+  over_sent c due = none_goes s c (ap (λ (t : Sending). t.due.offsets) o.is) (ap (λ (t : Sending). t.due.fin) o.is) due
+
+  pub over_lost : (c : Chunk) → WasSent s.lane c → after_lost s c ≡ s
+  over_lost c was = grind (arith, nat_tests, rest_lost)
+
+  pub over_not_reset : state s.lane ≡ ResetSent → ⊥
+  unfolding is_reset_sent
+  over_not_reset is = grind (arith, nat_tests)
+
+  -- what it has for a packet or an owner is its end
+  over_ended : send_ended s.lane ≡ true
+  over_ended = ap (λ (t : Sending). send_ended t.lane) o.is ∙ whole_is o.written
+
+is_end : Task → Bool
+is_end tasks.Ended = true
+is_end other = false
+
+over_has : (t : Task) (s : Sending) → IsOver s → has t s ≡ is_end t
+unfolding is_end
+over_has tasks.Bytes s o = ap (has tasks.Bytes) o.is ∙ rw (none_below (over_sending s.lane.id o.written s.lane.limit o.blocked s.lane.buffer o.widest) s.lane.limit (λ q le. set.contains-empty nat_cmp q)) (let none : nat_lt o.written (min o.written s.lane.limit) ≡ false = grind (arith, nat_tests) in grind (arith))
+over_has tasks.Again s o = ap (has tasks.Again) o.is ∙ none_below (over_sending s.lane.id o.written s.lane.limit o.blocked s.lane.buffer o.widest) o.written (λ q le. set.contains-empty nat_cmp q)
+over_has tasks.Ended s o = over_ended s o
+over_has tasks.Writable s o = ap (has tasks.Writable) o.is
+over_has tasks.Funded s o = ap (has tasks.Funded) o.is
+over_has tasks.Stopped s o = ap (has tasks.Stopped) o.is
+
+-- one that is over once its limit, its buffer or that it was blocked was set was over before
+module _ (s : Sending) where
+  pub allow_over : (limit : ℕ) → IsOver (after_allow s limit) → IsOver s
+  allow_over limit o = record { written = o.written; blocked = o.blocked; widest = o.widest; is = ap (λ (t : Sending). record t { lane = record t.lane { limit = s.lane.limit } }) o.is }
+
+  pub buffer_over : (size : ℕ) → IsOver (after_buffer s size) → IsOver s
+  buffer_over size o = record { written = o.written; blocked = o.blocked; widest = s.lane.widest; is = ap (λ (t : Sending). record t { lane = record t.lane { buffer = s.lane.buffer; widest = s.lane.widest } }) o.is }
+
+  pub blocked_over : IsOver (after_blocked s) → IsOver s
+  blocked_over o = record { written = o.written; blocked = s.lane.blocked_sent; widest = o.widest; is = ap (λ (t : Sending). record t { lane = record t.lane { blocked_sent = s.lane.blocked_sent } }) o.is }
+
+-- a half was put so that it is over exactly if it was
+module _ (xs now : List Sending) (marks : SendMarks) (i : ℕ) (y : Sending) (there : i < length xs) (is : now ≡ set_list xs i y) where
+  put_read : half_at now i ≡ y
+  put_read = ap (λ l. half_at l i) is ∙ get_or-set_same xs i y no_sending there
+
+  pub put_over : AreAllMarked xs marks → (IsOver y → IsOver (half_at xs i)) → IsOver (half_at now i) → AreMarksOf marks i (half_at now i)
+  put_over marked back o t = marks_read xs marks i (half_at xs i) marked there (there_at xs i there) t ∙ over_has t (half_at xs i) (back (subst IsOver put_read o)) ∙ sym (over_has t (half_at now i) o)
+
+  -- and looked at
+  pub put_looked : (new : SendMarks) (n k : ℕ) → ((t : Task) → marks_of new t ≡ slice_set (marks_of marks t) i (has t (half_at now i))) → promised_of y ≡ promised_of (half_at xs i) → kept_of y ≡ kept_of (half_at xs i)
+      → (length xs ≤ 2 ^ 60) × AreAllMarked xs marks × AreSums xs n k → (length now ≤ 2 ^ 60) × AreAllMarked now new × AreSums now n k
+  put_looked new n k looked promised kept h =
+      subst (λ (l : List Sending). (length l ≤ 2 ^ 60) × AreAllMarked l new × AreSums l n k) (sym is)
+      (all_looked xs marks new n k n k i y (λ t. looked t ∙ ap (λ s. slice_set (marks_of marks t) i (has t s)) put_read) h (sums_same xs n k i (half_at xs i) y there (there_at xs i there) promised kept h.2))

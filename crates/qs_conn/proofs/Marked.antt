@@ -1,18 +1,44 @@
 -- Marks beside parts: each part that isn't marked has a property.
-use Rattle.std.proofs.Common.{◌≡◌, ℕ, zero, suc, ◌+◌, ◌-◌, ◌*◌, ◌/◌, ◌%◌, min, ◌<◌, ◌≤◌, ◌^◌, Bool, true, false, List, [], ◌∷◌, ◌++◌, map, length, get_or, replicate, Option, None, Some, slice_get, refl, sym, ap, ◌∙◌, subst, arith, inl, inr}
+use Rattle.std.specs.FinSet as set
+use Rattle.std.proofs.Math.ListN as list
+use Rattle.qs_conn.specs.declared.recv_marks.RecvTask.TheVariants as tasks
+use Rattle.std.proofs.lemmas.Bool.Decides.{nat_tests}
+use Rattle.std.proofs.Common.{◌≡◌, ℕ, zero, suc, ◌+◌, ◌-◌, ◌*◌, ◌/◌, ◌%◌, min, ◌<◌, ◌≤◌, ◌^◌, Bool, true, false, List, [], ◌∷◌, ◌++◌, map, length, get_or, replicate, Option, None, Some, slice_get, refl, sym, ap, ◌∙◌, subst, arith, inl, inr, set, Result, ◌⊎◌, Ok, Err, unwrap_or, not, ◌≢◌, ◌==◌, take, bit_and, max, w64, ◌&&◌, ◌||◌, is_some}
 use Rattle.std.specs.List.{range_with_len}
-use Rattle.std.specs.Option.{IfSome, IfNone}
-use Rattle.std.proofs.Math.ListN.{set}
-use Rattle.std.proofs.lemmas.Bool.{cases_lt, both_ways}
-use Rattle.std.proofs.lemmas.List.{length-append, length-replicate, get_or_past, set-get_or, set-append_right}
-use Rattle.std.proofs.lemmas.Option.{none-some, same_Some, get_or_from_slice_get}
-use Rattle.std.specs.Prelude.{Result, Ok, Err}
+use Rattle.std.specs.Option.{IfSome, option_eq}
+use Rattle.std.proofs.lemmas.Bool.{cases_lt, both_ways, cases_eq, and_parts, not-true, true≢false, eqb-false, eq-eqb}
+use Rattle.std.proofs.lemmas.List.{length-append, length-replicate, get_or_past, set-get_or, set-append_right, length-set, length-take, get_or-set_same, get_or-set_other, get_or-take, get_or_read, take_all, append-nil, ext_get_or, length-map, get_or-map, map-append, map-set, take-map}
+use Rattle.std.proofs.lemmas.Option.{none-some, same_Some, get_or_from_slice_get, unwrap_or-slice_get, slice_get_within}
 use Rattle.std.specs.Result.{OnOk, OnErr}
-use Rattle.qs_conn.specs.Untold.{IsClear}
-use Rattle.qs_conn.specs.Marks.{is_marked, AreMarked, IsBefore, IsNextMark, HaveTo, least_of}
+use Rattle.qs_conn.specs.Untold.{IsClear as IsUntoldClear}
+use Rattle.qs_conn.specs.Marks.{is_marked, AreMarked, IsBefore as IsMarkBefore, IsNextMark, HaveTo, least_of, IsAt, IsHeldOf, IsMarkedBeside, both, untold, IsUntold, HasNoMark, HasAllMarks, AreSummed, AreMarkedBelow, AreUnmarkedFrom, AreFull, AreEndsMarked, IsUntoldOf}
 use Rattle.qs_machine.specs.Sums.{tables_of}
-use Rattle.qs_machine.specs.Tables.{Tables, lookup, widened}
-use Rattle.qs_machine.proofs.TableEdits.{lookup_is}
+use Rattle.qs_machine.specs.Tables.{Tables, lookup, widened, type_of, table, no_streams}
+use Rattle.qs_machine.proofs.TableEdits.{lookup_is, with_is, table_is, opened_updated}
+use Rattle.std.specs.Prelude.{option_map, slice_set}
+use Rattle.qs_machine.specs.News.{IsLeast, IsHeld}
+use Rattle.qs_ranges.specs.declared.NoMemory.{NoMemory}
+use Rattle.qs_machine.specs.Heard.{is_told, IsToldBeside, IsForgotten}
+use Rattle.qs_machine.proofs.TableLaws.{lookup_open, lookup_same, lookup_other}
+use Rattle.qs_conn.proofs.Boths.{untold_is, not_both, left_below, told_below as both_told_below}
+use Rattle.qs_machine.proofs.Ties.{nowhere}
+use Rattle.qs_conn.specs.Hearing.{IsToldOf}
+use Rattle.std.proofs.lemmas.Grind.{common_steps, get_or-set_at}
+use Rattle.std.specs.Int.{bit_at, bit_not}
+use Rattle.std.proofs.lemmas.List.FromFn.{length-map-range_with_len, get_or-map-range_with_len}
+use Rattle.std.proofs.lemmas.Nat.Bits.{bit_at-zero, bit_at_and, bit_at_ones, bit_at_ones_above, bit_at-lt, bit_at_not}
+use Rattle.qs_ranges.specs.Bits.{HasBit, IsBefore, IsLowestBit}
+use Rattle.qs_conn.specs.Words.{flag, flags, AreFlags, IsCutAt, IsWordOf}
+use Rattle.std.specs.Ordering.{nat_cmp}
+use Rattle.qs_recv.specs.Lane.{RecvLane, new_lane, raise, answer_by, read_answer, is_whole}
+use Rattle.qs_recv.specs.declared.half.Read.TheVariants.{Wait}
+use Rattle.qs_recv.specs.News.{tells_something}
+use Rattle.qs_recv.specs.declared.credit.Share.{Share}
+use Rattle.qs_machine.specs.Credit.{recv_ended}
+use Rattle.qs_machine.proofs.EveryCall.{not_chosen}
+use Rattle.qs_conn.specs.RecvTasks.{has, has_one, marks_of, HasNone, HasOne, AreNoted}
+use Rattle.qs_conn.specs.declared.recv_marks.RecvTask.{RecvTask}
+use Rattle.qs_conn.specs.declared.recv_marks.RecvMarks.{RecvMarks}
 
 pub mark_past : (ms : List Bool) (i : ℕ) → length ms ≤ i → is_marked ms i ≡ false
 mark_past ms i le = get_or_past ms i false le
@@ -54,19 +80,18 @@ next_small ms from (Some n) few next =
     elim (cases_lt n (length ms)) [ inl lt ↦ omega (arith, lt, few) | inr ge ↦ absurd (both_ways (is_marked ms n) (mark_past ms n ge) (next.found n refl).1) ]
 
 pub short_opened : {E : Type 0} (r : Result (Unit {0}) E) (ms now : List Bool) (count : ℕ) → count ≤ 2 ^ 60 → length ms ≤ 2 ^ 60 → OnOk r (now ≡ ms ++ replicate (count - length ms) false) → OnErr r (now ≡ ms) → length now ≤ 2 ^ 60
-short_opened (Ok done) ms now count small few ok err = let len = ap length ok in omega (arith, len, small, few, length-append ms (replicate (count - length ms) false), length-replicate (count - length ms) false)
-short_opened (Err e) ms now count small few ok err = let len = ap length err in omega (arith, len, few)
+short_opened r ms now count small few ok err = grind (arith, nat_tests, length-append, length-replicate)
 
 -- a search jumps over indexes without a mark
-pub unmarked_passed : (ms : List Bool) (from : ℕ) (answer : Option ℕ) → IsNextMark ms from answer → (i : ℕ) (b : Bool) → from ≤ i → IsBefore i answer → slice_get ms i ≡ Some b → b ≡ false
+pub unmarked_passed : (ms : List Bool) (from : ℕ) (answer : Option ℕ) → IsNextMark ms from answer → (i : ℕ) (b : Bool) → from ≤ i → IsMarkBefore i answer → slice_get ms i ≡ Some b → b ≡ false
 unmarked_passed ms from answer next i b le before at = sym (get_or_from_slice_get ms i b false at) ∙ next.unmarked i le before
 
 -- no index has a mark
 
-pub none_at : (ms : List Bool) → IsClear ms → (i : ℕ) (b : Bool) → slice_get ms i ≡ Some b → b ≡ false
+pub none_at : (ms : List Bool) → IsUntoldClear ms → (i : ℕ) (b : Bool) → slice_get ms i ≡ Some b → b ≡ false
 none_at ms h i b at = sym (get_or_from_slice_get ms i b false at) ∙ h i
 
-pub clear_next : (ms : List Bool) (from : ℕ) → IsClear ms → IsNextMark ms from None
+pub clear_next : (ms : List Bool) (from : ℕ) → IsUntoldClear ms → IsNextMark ms from None
 clear_next ms from h = record { found = λ n is. absurd (none-some n is); unmarked = λ i le before. h i }
 
 -- new indexes without a mark
@@ -79,7 +104,7 @@ widened_is xs ys count is = is ∙ ap (λ zs. xs ++ zs) (all_false (length xs) (
 
 -- Answers of several types of streams
 
-pub before_least : (a b : Option ℕ) (n : ℕ) → IsBefore n (least_of a b) → IsBefore n a × IsBefore n b
+pub before_least : (a b : Option ℕ) (n : ℕ) → IsMarkBefore n (least_of a b) → IsMarkBefore n a × IsMarkBefore n b
 before_least None b n is = (tt, is)
 before_least (Some a) None n is = (is, tt)
 before_least (Some a) (Some b) n is = (omega (arith, is), omega (arith, is))
@@ -90,11 +115,11 @@ least_has P (Some a) None p q = p
 least_has P (Some a) (Some b) p q = elim (cases_lt a b) [ inl lt ↦ (let e : min a b ≡ a = omega (arith, lt) in subst P (sym e) p) | inr ge ↦ (let e : min a b ≡ b = omega (arith, ge) in subst P (sym e) q) ]
 
 pub all_kinds : {X : Type 0} (Q : X → Type 0) (t : Tables X) (from : ℕ) (a b c d answer : Option ℕ) → HaveTo Q t from a 0 → HaveTo Q t from b 1 → HaveTo Q t from c 2 → HaveTo Q t from d 3 → answer ≡ least_of (least_of a b) (least_of c d)
-    → (n : ℕ) (x : X) → from ≤ n → IsBefore n answer → lookup t n ≡ Some x → Q x
+    → (n : ℕ) (x : X) → from ≤ n → IsMarkBefore n answer → lookup t n ≡ Some x → Q x
 all_kinds Q t from a b c d answer qa qb qc qd is n x le before at = go (n % 4) refl (omega arith)
   where
-    parts : IsBefore n (least_of a b) × IsBefore n (least_of c d)
-    parts = before_least (least_of a b) (least_of c d) n (subst (IsBefore n) is before)
+    parts : IsMarkBefore n (least_of a b) × IsMarkBefore n (least_of c d)
+    parts = before_least (least_of a b) (least_of c d) n (subst (IsMarkBefore n) is before)
 
     go : (k : ℕ) → n % 4 ≡ k → k < 4 → Q x
     go zero e lt = qa n x e le (before_least a b n parts.0).0 at
@@ -105,13 +130,10 @@ all_kinds Q t from a b c d answer qa qb qc qd is n x le before at = go (n % 4) r
 
 -- the parts of one type from an index on
 pub of_kind : {X : Type 0} (Q : X → Type 0) (ls : List (List X)) (k from first : ℕ) (d : List X) (found answer : Option ℕ) → length ls ≡ 4 → k < 4 → first ≡ (from + 3 - k) / 4
-    → ((i : ℕ) (x : X) → first ≤ i → IsBefore i found → slice_get (get_or ls k d) i ≡ Some x → Q x) → ((i : ℕ) → IsBefore (i * 4 + k) answer → IsBefore i found) → HaveTo Q (tables_of ls) from answer k
+    → ((i : ℕ) (x : X) → first ≤ i → IsMarkBefore i found → slice_get (get_or ls k d) i ≡ Some x → Q x) → ((i : ℕ) → IsMarkBefore (i * 4 + k) answer → IsMarkBefore i found) → HaveTo Q (tables_of ls) from answer k
 of_kind Q ls k from first d found answer len small is q before n x kind le earlier at =
     let here : n ≡ n / 4 * 4 + k = omega (arith, kind) in
-    q (n / 4) x (omega (arith, is, le, here, small)) (before (n / 4) (subst (λ m. IsBefore m answer) here earlier)) (sym (lookup_is ls n k (n / 4) d len (sym kind) refl) ∙ at)
-
-pub least_four : (a b c d x y r : Option ℕ) → x ≡ least_of a b → y ≡ least_of c d → r ≡ least_of x y → r ≡ least_of (least_of a b) (least_of c d)
-least_four a b c d x y r left right is = rw (sym left, sym right) is
+    q (n / 4) x (omega (arith, is, le, here, small)) (before (n / 4) (subst (λ m. IsMarkBefore m answer) here earlier)) (sym (lookup_is ls n k (n / 4) d len (sym kind) refl) ∙ at)
 
 -- what all parts of each type have, each open stream has
 pub has_each : {X : Type 0} (Q : X → Type 0) (ls : List (List X)) (d0 d1 d2 d3 : List X) → length ls ≡ 4 → ((i : ℕ) (x : X) → slice_get (get_or ls 0 d0) i ≡ Some x → Q x) → ((i : ℕ) (x : X) → slice_get (get_or ls 1 d1) i ≡ Some x → Q x)
@@ -132,7 +154,621 @@ has_each {X} Q ls d0 d1 d2 d3 len q0 q1 q2 q3 n x at = go (n % 4) refl (omega ar
 pub four_have : (P : ℕ → Type 0) (a b c d : Option ℕ) → IfSome a P → IfSome b P → IfSome c P → IfSome d P → IfSome (least_of (least_of a b) (least_of c d)) P
 four_have P a b c d pa pb pc pd = least_has P (least_of a b) (least_of c d) (least_has P a b pa pb) (least_has P c d pc pd)
 
--- a number that a stream can have is one's
-pub id_is : (id r : Option ℕ) (number : ℕ) → r ≡ Some number → IfSome r (λ n. n < 2 ^ 62) → IfSome id (λ m. (m ≡ number) × (number < 2 ^ 62)) → IfNone id (2 ^ 62 ≤ number) → id ≡ r
-id_is (Some m) r number is small some none = ap Some some.0 ∙ sym is
-id_is None r number is small some none = (let few : IfSome (Some number) (λ n. n < 2 ^ 62) = subst (λ x. IfSome x (λ n. n < 2 ^ 62)) is small in absurd (omega (arith, few, none)))
+-- ---- Searches for the least number with a property.
+
+-- none below the answer has the property
+pub least_by : (P : ℕ → Type 0) (from : ℕ) (answer : Option ℕ) → ((n : ℕ) → answer ≡ Some n → (from ≤ n) × P n) → ((n : ℕ) → from ≤ n → IsMarkBefore n answer → P n → ⊥) → IsLeast P from answer
+least_by P from answer found none = grind (arith, nat_tests)
+
+pub none_before : (P : ℕ → Type 0) (from : ℕ) (answer : Option ℕ) → IsLeast P from answer → (n : ℕ) → from ≤ n → IsMarkBefore n answer → P n → ⊥
+none_before P from answer h n le before p = grind (arith, nat_tests)
+
+-- none below a number, none up to the next one that is looked at, nor there
+pub none_next : (P : ℕ → Type 0) (from m : ℕ) → ((n : ℕ) → n < from → P n → ⊥) → ((n : ℕ) → from ≤ n → n < m → P n → ⊥) → (P m → ⊥) → (n : ℕ) → n < m + 1 → P n → ⊥
+none_next P from m below between here n lt p = grind (arith, here)
+
+-- A search
+
+-- up to a place none has the property
+pub record IsClear (P : ℕ → Type 0) (from next : ℕ) : Type 0 where
+  pub after : from ≤ next
+  pub none : (i : ℕ) → from ≤ i → i < next → P i → ⊥
+
+pub clear_at : (P : ℕ → Type 0) (from : ℕ) → IsClear P from from
+clear_at P from = record { after = omega arith; none = λ i ge lt p. omega (arith, ge, lt) }
+
+module _ (P : ℕ → Type 0) (from index : ℕ) (c : IsClear P from index) where
+  pub clear_over : (P index → ⊥) → IsClear P from (index + 1)
+  clear_over without = grind (arith, nat_tests)
+
+  pub least_here : P index → IsLeast P from (Some index)
+  least_here p = least_by P from (Some index) (λ n is. (let same : index ≡ n = same_Some index n is in (omega (arith, c.after, same), subst P same p))) (λ i ge before q. c.none i ge before q)
+
+-- Answers of several searches
+
+-- the lesser of two answers, where each number with the property is in one of two parts
+pub least_two : (P Q R : ℕ → Type 0) (from : ℕ) (a b : Option ℕ) → ((n : ℕ) → P n → R n) → ((n : ℕ) → Q n → R n) → ((n : ℕ) → R n → P n ⊎ Q n) → IsLeast P from a → IsLeast Q from b → IsLeast R from (least_of a b)
+least_two P Q R from a b left right parts p q = least_by R from (least_of a b) (found a b p q) (λ n le before r. elim (parts n r) [ inl x ↦ none_before P from a p n le (before_least a b n before).0 x | inr y ↦ none_before Q from b q n le (before_least a b n before).1 y ])
+  where
+    found : (x y : Option ℕ) → IsLeast P from x → IsLeast Q from y → (n : ℕ) → least_of x y ≡ Some n → (from ≤ n) × R n
+    found None y s t n is = (let f = t.found n is in (f.0, right n f.1))
+    found (Some x) None s t n is = (let f = s.found n is in (f.0, left n f.1))
+    found (Some x) (Some y) s t n is = grind (arith, left x, right y, same_Some (min x y) n is)
+
+-- Streams
+
+-- those of one type
+abbrev pub OfKind : (ℕ → Type 0) → ℕ → ℕ → Type 0
+OfKind P k n = (type_of n ≡ k) × P n
+
+-- where the streams of a type have the property as their indexes do, the least of both are one
+module _ (P Row : ℕ → Type 0) (k from first : ℕ) (small : k < 4) (begin : first ≡ (from + 3 - k) / 4) (there : (n : ℕ) → type_of n ≡ k → P n → Row (n / 4)) where
+  index_from : (n : ℕ) → type_of n ≡ k → from ≤ n → first ≤ n / 4
+  index_from n kind ge = omega (arith, small, begin, kind, ge)
+
+  pub row_none : IsLeast Row first None → IsLeast (OfKind P k) from None
+  row_none h = least_by (OfKind P k) from None (λ n is. absurd (none-some n is)) (λ n ge before p. none_before Row first None h (n / 4) (index_from n p.0 ge) tt (there n p.0 p.1))
+
+  pub row_some : (i : ℕ) → ((n : ℕ) → type_of n ≡ k → i ≡ n / 4 → Row i → P n) → IsLeast Row first (Some i) → IsLeast (OfKind P k) from (Some (i * 4 + k))
+  row_some i back h = grind (arith, nat_tests)
+
+-- where a mark tells which streams have the property, the next mark is the least of them
+pub next_of : (P : ℕ → Type 0) (ms : List Bool) (k from first : ℕ) → k < 4 → first ≡ (from + 3 - k) / 4 → ((n : ℕ) → type_of n ≡ k → P n → is_marked ms (n / 4) ≡ true) → ((n : ℕ) → type_of n ≡ k → is_marked ms (n / 4) ≡ true → P n)
+    → (r : Option ℕ) → IsNextMark ms first r → IsLeast (OfKind P k) from (option_map (λ i. i * 4 + k) r)
+next_of P ms k from first small begin there back r next = go r (least_by Row first r next.found (λ i ge before is. both_ways (is_marked ms i) (next.unmarked i ge before) is))
+  where
+    Row : ℕ → Type 0
+    Row i = is_marked ms i ≡ true
+
+    go : (o : Option ℕ) → IsLeast Row first o → IsLeast (OfKind P k) from (option_map (λ i. i * 4 + k) o)
+    go None h = row_none P Row k from first small begin there h
+    go (Some i) h = row_some P Row k from first small begin there i (λ n kind index is. back n kind (subst Row index is)) h
+
+part_of : {X : Type 0} (R : X → Type 0) (ls : List (List X)) (k : ℕ) (d : List X) → length ls ≡ 4 → (n : ℕ) → type_of n ≡ k → IsHeld R (tables_of ls) n → IsAt R (get_or ls k d) (n / 4)
+part_of R ls k d len n kind (x, at, r) = (x, sym (lookup_is ls n k (n / 4) d len (sym kind) refl) ∙ at, r)
+
+-- of all parts of one type, the least index from one on
+pub kind_none : {X : Type 0} (R : X → Type 0) (ls : List (List X)) (k from first : ℕ) (d : List X) → length ls ≡ 4 → k < 4 → first ≡ (from + 3 - k) / 4 → IsLeast (IsAt R (get_or ls k d)) first None → IsLeast (IsHeldOf R (tables_of ls) k) from None
+kind_none R ls k from first d len small begin = row_none (IsHeld R (tables_of ls)) (IsAt R (get_or ls k d)) k from first small begin (part_of R ls k d len)
+
+pub kind_some : {X : Type 0} (R : X → Type 0) (ls : List (List X)) (k from first i : ℕ) (d : List X) → length ls ≡ 4 → k < 4 → first ≡ (from + 3 - k) / 4 → IsLeast (IsAt R (get_or ls k d)) first (Some i) → IsLeast (IsHeldOf R (tables_of ls) k) from (Some (i * 4 + k))
+kind_some R ls k from first i d len small begin = row_some (IsHeld R (tables_of ls)) (IsAt R (get_or ls k d)) k from first small begin (part_of R ls k d len) i (λ n kind index (x, at, r). (x, lookup_is ls n k i d len (sym kind) index ∙ at, r))
+
+-- of all four types
+pub kinds_four : (P : ℕ → Type 0) (from : ℕ) (a b c d : Option ℕ) → IsLeast (OfKind P 0) from a → IsLeast (OfKind P 1) from b → IsLeast (OfKind P 2) from c → IsLeast (OfKind P 3) from d → IsLeast P from (least_of (least_of a b) (least_of c d))
+kinds_four P from a b c d p q r s =
+    let Bidi : ℕ → Type 0 = λ n. OfKind P 0 n ⊎ OfKind P 1 n in
+    let Uni : ℕ → Type 0 = λ n. OfKind P 2 n ⊎ OfKind P 3 n in
+    least_two Bidi Uni P from (least_of a b) (least_of c d) (λ n h. elim h [ inl x ↦ x.1 | inr y ↦ y.1 ]) (λ n h. elim h [ inl x ↦ x.1 | inr y ↦ y.1 ]) by_kind
+    (least_two (OfKind P 0) (OfKind P 1) Bidi from a b (λ n x. inl x) (λ n y. inr y) (λ n h. h) p q) (least_two (OfKind P 2) (OfKind P 3) Uni from c d (λ n x. inl x) (λ n y. inr y) (λ n h. h) r s)
+  where
+    by_kind : (n : ℕ) → P n → (OfKind P 0 n ⊎ OfKind P 1 n) ⊎ (OfKind P 2 n ⊎ OfKind P 3 n)
+    by_kind n held = grind (arith)
+
+-- A premise
+
+pub least_given : (A : Type 0) (P : ℕ → Type 0) (from : ℕ) (r : Option ℕ) → A → IsLeast P from r → IsLeast (λ n. A × P n) from r
+least_given A P from r a h = record { found = λ n is. (let f = h.found n is in (f.0, (a, f.1))); least = λ n ge p. h.least n ge p.1 }
+
+-- ---- What it is to a table of marks that one of them is set or taken away.
+
+-- One row
+
+all_unmarked : (lo n : ℕ) → replicate n false ≡ map (λ (i : ℕ). false) (range_with_len lo n)
+all_unmarked lo zero = refl
+all_unmarked lo (suc n) = ap (λ ms. false ∷ ms) (all_unmarked (lo + 1) n)
+
+pub marked_beside : (old mid new : List Bool) (n : ℕ) → mid ≡ old ++ replicate (n + 1 - length old) false → new ≡ set mid n true → IsMarkedBeside n old new
+marked_beside old mid new n opened is = is ∙ ap (λ xs. set xs n true) (opened ∙ ap (λ ms. old ++ ms) (all_unmarked (length old) (n + 1 - length old)))
+
+-- Four rows
+
+told_at : (ls : List (List Bool)) (m k : ℕ) (d : List Bool) → length ls ≡ 4 → k ≡ m % 4 → is_told (tables_of ls) m ≡ is_marked (get_or ls k d) (m / 4)
+told_at ls m k d len kind = ap (λ o. unwrap_or o false) (lookup_is ls m k (m / 4) d len kind refl) ∙ unwrap_or-slice_get (get_or ls k d) (m / 4) false
+
+pub told_read : (ls : List (List Bool)) (n k i : ℕ) (d : List Bool) (b : Bool) → length ls ≡ 4 → k ≡ n % 4 → i ≡ n / 4 → b ≡ is_marked (get_or ls k d) i → b ≡ is_told (tables_of ls) n
+told_read ls n k i d b len kind index is = is ∙ ap (is_marked (get_or ls k d)) index ∙ sym (told_at ls n k d len kind)
+
+pub told_beside : (ls : List (List Bool)) (n k i : ℕ) (d new : List Bool) → length ls ≡ 4 → k ≡ n % 4 → i ≡ n / 4 → IsMarkedBeside i (get_or ls k d) new → IsToldBeside n (tables_of ls) (tables_of (set ls k new))
+told_beside ls n k i d new len kind index is = grind (arith, nat_tests, with_is, table_is, opened_updated)
+
+-- What was told stays below a bound
+
+module _ (old new : Tables Bool) (n bound : ℕ) (below : (m : ℕ) → is_told old m ≡ true → m < bound) where
+  told_below : n < bound → IsToldBeside n old new → (m : ℕ) → is_told new m ≡ true → m < bound
+  told_below small is m told = grind (arith, nat_tests, cases_eq, lookup_other, lookup_open, unwrap_or)
+
+  pub noted_below : n < bound → (r : Result (Unit {0}) NoMemory) → OnOk r (IsToldBeside n old new) → OnErr r (new ≡ old) → (m : ℕ) → is_told new m ≡ true → m < bound
+  noted_below small (Ok done) is same = told_below small is
+  noted_below small (Err refused) is same = λ m told. below m (ap (λ t. is_told t m) (sym same) ∙ told)
+
+  pub forgotten_below : IsForgotten n old new → (m : ℕ) → is_told new m ≡ true → m < bound
+  forgotten_below is m told = grind (arith, nat_tests, cases_eq, lookup_same, unwrap_or, lookup_other)
+
+-- ---- Searches for the least stream that has an answer of which its owner wasn't told.
+
+-- One row as both
+
+pub both_self : (ms : List Bool) → both ms ms ≡ ms
+both_self [] = refl
+both_self (true ∷ ms) = ap (λ xs. true ∷ xs) (both_self ms)
+both_self (false ∷ ms) = ap (λ xs. false ∷ xs) (both_self ms)
+
+pub next_self : (ms ts : List Bool) (from : ℕ) (r : Option ℕ) → IsNextMark (untold (both ms ms) ts) from r → IsNextMark (untold ms ts) from r
+next_self ms ts from r h = subst (λ xs. IsNextMark (untold xs ts) from r) (both_self ms) h
+
+-- where none between has the property, nor any from there on
+module _ (P : ℕ → Type 0) (from next : ℕ) (c : IsClear P from next) where
+  pub clear_on : (n : ℕ) → next ≤ n → ((i : ℕ) → next ≤ i → i < n → P i → ⊥) → IsClear P from n
+  clear_on n le between = grind (arith, nat_tests)
+
+  pub none_on : ((i : ℕ) → next ≤ i → P i → ⊥) → IsLeast P from None
+  none_on none = least_by P from None (λ n is. absurd (none-some n is)) (λ i ge before p. elim (cases_lt i next) [ inl lt ↦ c.none i ge lt p | inr past ↦ none i past p ])
+
+-- a mark is left only where there was one, and none was told
+pub left_at : (ms ts : List Bool) (i : ℕ) → is_marked (untold ms ts) i ≡ true → (is_marked ms i ≡ true) × (is_marked ts i ≡ false)
+left_at ms ts i is = let (one, free) = and_parts (is_marked ms i) (not (is_marked ts i)) (sym (untold_is ms ts i) ∙ is) in (one, not-true (is_marked ts i) free)
+
+-- Streams of a type
+
+told_row : (t : Tables Bool) (n : ℕ) → is_told t n ≡ is_marked (table t (type_of n)) (n / 4)
+unfolding lookup
+told_row t n = unwrap_or-slice_get (table t (type_of n)) (n / 4) false
+
+pub told_of : (t : Tables Bool) (n k : ℕ) → type_of n ≡ k → is_told t n ≡ is_marked (table t k) (n / 4)
+told_of t n k kind = told_row t n ∙ ap (λ j. is_marked (table t j) (n / 4)) kind
+
+-- ---- The least stream with a mark.
+
+-- at first none has one
+none_told : (told : Tables Bool) → told ≡ no_streams → (n : ℕ) → is_told told n ≡ false
+none_told told same n = ap (λ t. is_told t n) same ∙ ap (λ o. unwrap_or o false) (nowhere n)
+
+pub none_marked : (told : Tables Bool) → told ≡ no_streams → (n : ℕ) → is_told told n ≡ true → n < 2 ^ 62
+none_marked told same n is = absurd (both_ways (is_told told n) (none_told told same n) is)
+
+pub untold_of_none : (P : ℕ → Type 0) (told : Tables Bool) (from : ℕ) (r : Option ℕ) → told ≡ no_streams → IsLeast (IsUntold P told) from r → IsLeast P from r
+untold_of_none P told from r same h = record { found = λ n is. (let f = h.found n is in (f.0, f.1.0)); least = λ n ge p. h.least n ge (p, none_told told same n) }
+
+-- nor where no mark is set
+pub nowhere_told : (told : Tables Bool) → ((n : ℕ) (b : Bool) → lookup told n ≡ Some b → b ≡ false) → (n : ℕ) → is_told told n ≡ true → ⊥
+nowhere_told told none n = go (lookup told n) refl
+  where
+    go : (x : Option Bool) → lookup told n ≡ x → unwrap_or x false ≡ true → ⊥
+    go None at is = true≢false (sym is)
+    go (Some b) at is = both_ways b (none n b at) is
+
+module _ (told : Tables Bool) (k : ℕ) (marks : List Bool) (small : k < 4) (are : marks ≡ table told k) where
+  told_mark_of : (n : ℕ) → type_of n ≡ k → is_told told n ≡ is_marked marks (n / 4)
+  told_mark_of n kind = told_of told n k kind ∙ ap (λ ms. is_marked ms (n / 4)) (sym are)
+
+  -- the stream of a marked index has a mark
+  pub marked_told : (i : ℕ) → IsNextMark marks 0 (Some i) → IsToldOf told k (i * 4 + k)
+  marked_told i h =
+      let n = i * 4 + k in
+      let kind : type_of n ≡ k = omega (arith, small) in
+      let index : i ≡ n / 4 = omega (arith, small) in
+      (kind, told_mark_of n kind ∙ ap (is_marked marks) (sym index) ∙ (h.found i refl).1)
+
+  pub marked_small : ((n : ℕ) → is_told told n ≡ true → n < 2 ^ 62) → (i : ℕ) → IsNextMark marks 0 (Some i) → i * 4 + k < 2 ^ 62
+  marked_small few i h = few (i * 4 + k) (marked_told i h).1
+
+  pub told_some : (i : ℕ) → IsNextMark marks 0 (Some i) → IsLeast (IsToldOf told k) 0 (Some (i * 4 + k))
+  told_some i h =
+      least_by (IsToldOf told k) 0 (Some (i * 4 + k)) (λ n is. (omega arith, rw (← same_Some (i * 4 + k) n is) (marked_told i h)))
+      (λ n ge before p. both_ways (is_marked marks (n / 4)) (h.unmarked (n / 4) (omega arith) (let kind = p.0 in omega (arith, before, kind, small))) (sym (told_mark_of n p.0) ∙ p.1))
+
+  pub told_none : IsNextMark marks 0 None → IsLeast (IsToldOf told k) 0 None
+  told_none h =
+      least_by (IsToldOf told k) 0 None (λ n is. absurd (none-some n is))
+      (λ n ge before p. both_ways (is_marked marks (n / 4)) (h.unmarked (n / 4) (omega arith) tt) (sym (told_mark_of n p.0) ∙ p.1))
+
+-- ---- Flags as bits of words: one word, a list of them, and a search.
+
+pub bits_cut : (word bit : ℕ) → bit < 64 → IsCutAt word bit (bit_and word (1 * 2 ^ bit % 2 ^ 64 - 1))
+bits_cut word bit small = grind (arith, common_steps, bit_at_and, bit_at_ones, bit_at_ones_above)
+
+-- Words
+
+pub padded : {A : Type 0} (xs : List A) (n k : ℕ) (d : A) → get_or (xs ++ replicate n d) k d ≡ get_or xs k d
+padded xs n k d = grind (arith, common_steps)
+
+flag_of : (ws vs : List ℕ) (i : ℕ) → bit_at (get_or ws (i / 64) 0) (i % 64) ≡ bit_at (get_or vs (i / 64) 0) (i % 64) → flag ws i ≡ flag vs i
+flag_of ws vs i is = rw is refl
+
+pub flag_past : (ws : List ℕ) (i : ℕ) → length ws ≤ i / 64 → flag ws i ≡ false
+flag_past ws i past = rw (get_or_past ws (i / 64) 0 past, bit_at-zero (i % 64)) refl
+
+pub flags_len : (ws : List ℕ) (count : ℕ) → length (flags ws count) ≡ count
+flags_len ws count = length-map-range_with_len (flag ws) 0 count
+
+flags_at : (ws : List ℕ) (count i : ℕ) → i < count → is_marked (flags ws count) i ≡ flag ws i
+flags_at ws count i lt = get_or-map-range_with_len (flag ws) 0 count i i false lt (omega arith)
+
+pub marked_is : (ws : List ℕ) (count i : ℕ) → AreFlags ws count → is_marked (flags ws count) i ≡ flag ws i
+marked_is ws count i are = grind (arith, nat_tests, flags_at, flags_len, get_or_past)
+
+-- a list of marks is that of the words
+pub flags_are : (ws : List ℕ) (count : ℕ) (marks : List Bool) → length marks ≡ count → ((i : ℕ) → i < count → is_marked marks i ≡ flag ws i) → flags ws count ≡ marks
+flags_are ws count marks len each =
+    ext_get_or false (flags ws count) marks (flags_len ws count ∙ sym len)
+    (λ i lt. let below : i < count = omega (arith, lt, flags_len ws count) in flags_at ws count i below ∙ sym (each i below))
+
+pub index_below : (ws : List ℕ) (count index : ℕ) (marks : List Bool) → flags ws count ≡ marks → index < length marks → index < count
+index_below ws count index marks is lt = omega (arith, lt, ap length is, flags_len ws count)
+
+-- nothing is opened or closed
+pub none_opened : (ws : List ℕ) (count to : ℕ) (marks : List Bool) → flags ws count ≡ marks → to ≤ count → marks ≡ marks ++ replicate (to - length marks) false
+none_opened ws count to marks is le = grind (arith, nat_tests, flags_len, append-nil)
+
+pub none_closed : (ws : List ℕ) (count to : ℕ) (marks : List Bool) → flags ws count ≡ marks → count ≤ to → marks ≡ take to marks
+none_closed ws count to marks is le = sym (take_all to marks (omega (arith, le, ap length is, flags_len ws count)))
+
+-- words are added
+flag_added : (ws : List ℕ) (n i : ℕ) → length ws ≤ n → flag (take n ws ++ replicate (n - length ws) 0) i ≡ flag ws i
+flag_added ws n i le = rw (take_all n ws le, padded ws (n - length ws) (i / 64) 0) refl
+
+-- more flags of words that have the same ones
+more_flags : (ws now : List ℕ) (count to : ℕ) → AreFlags ws count → count < to → ((i : ℕ) → flag now i ≡ flag ws i) → flags now to ≡ flags ws count ++ replicate (to - length (flags ws count)) false
+more_flags ws now count to are more same =
+    flags_are now to (flags ws count ++ replicate (to - length (flags ws count)) false)
+    (omega (arith, more, flags_len ws count, length-append (flags ws count) (replicate (to - length (flags ws count)) false), length-replicate (to - length (flags ws count)) false))
+    (λ i lt. padded (flags ws count) (to - length (flags ws count)) i false ∙ marked_is ws count i are ∙ sym (same i))
+
+pub flags_room : (ws : List ℕ) (count to : ℕ) → AreFlags ws count → count < to → flags ws to ≡ flags ws count ++ replicate (to - length (flags ws count)) false
+flags_room ws count to are more = more_flags ws ws count to are more (λ i. refl)
+
+module _ (ws now : List ℕ) (count to n len : ℕ) (are : AreFlags ws count) (more : count < to) (le : length ws ≤ n) (is_len : len ≡ length ws) (is : now ≡ take n ws ++ replicate (n - len) 0) where
+  flag_opened : (i : ℕ) → flag now i ≡ flag ws i
+  flag_opened i = rw (is, is_len) (flag_added ws n i le)
+
+  pub flags_opened : flags now to ≡ flags ws count ++ replicate (to - length (flags ws count)) false
+  flags_opened = more_flags ws now count to are more flag_opened
+
+  pub flags_grown : to < 2 ^ 64 → to ≤ 64 * n → 64 * n ≤ to + 64 → AreFlags now to
+  flags_grown fits room tight = grind (arith, common_steps, length-append, replicate, length-take, length-replicate)
+
+-- a word is cut, and those behind it leave
+module _ (ws : List ℕ) (count to last after : ℕ) (are : AreFlags ws count) (less : to < count) (read : last ≡ get_or (take (to / 64 + 1) ws) (to / 64) last) (cut : IsCutAt last (to % 64) after) where
+  flag_kept : (i : ℕ) → i < to → flag (set (take (to / 64 + 1) ws) (to / 64) after) i ≡ flag ws i
+  flag_kept i lt = grind (arith, common_steps, cases_eq, flag_of, set, get_or-set_other, get_or-take)
+
+  pub flags_closed : flags (set (take (to / 64 + 1) ws) (to / 64) after) to ≡ take to (flags ws count)
+  flags_closed =
+      flags_are (set (take (to / 64 + 1) ws) (to / 64) after) to (take to (flags ws count))
+      (omega (arith, less, flags_len ws count, length-take to (flags ws count)))
+      (λ i lt. get_or-take to (flags ws count) i false lt ∙ marked_is ws count i are ∙ sym (flag_kept i lt))
+
+-- a bit is set or cleared
+module _ (ws : List ℕ) (count index before after : ℕ) (is_set : Bool) (are : AreFlags ws count) (there : index < count) (read : before ≡ get_or ws (index / 64) before) (bit : HasBit before (index % 64) is_set after) where
+  word_in : index / 64 < length ws
+  word_in = omega (arith, there, are.room)
+
+  flag_here : flag (set ws (index / 64) after) index ≡ is_set
+  flag_here = rw (get_or-set_same ws (index / 64) after 0 word_in) bit.here
+
+  flag_other : (i : ℕ) → i ≢ index → flag (set ws (index / 64) after) i ≡ flag ws i
+  flag_other i differs = grind (arith, common_steps, cases_eq, set, get_or-set_same, flag_of, get_or-set_other)
+
+  pub flags_set : flags (set ws (index / 64) after) count ≡ set (flags ws count) index is_set
+  flags_set =
+      flags_are (set ws (index / 64) after) count (set (flags ws count) index is_set) (length-set (flags ws count) index is_set ∙ flags_len ws count)
+      (λ i lt.
+      elim (cases_eq i index) [
+        | inl same ↦
+            let here : index < length (flags ws count) = omega (arith, there, flags_len ws count) in
+            rw same (get_or-set_same (flags ws count) index is_set false here ∙ sym flag_here)
+        | inr differs ↦ get_or-set_other (flags ws count) index i is_set false differs ∙ marked_is ws count i are ∙ sym (flag_other i differs)
+      ])
+
+  pub stay_flags : AreFlags (set ws (index / 64) after) count
+  stay_flags = grind (arith, common_steps, length-set)
+
+-- a word is read
+module _ (ws : List ℕ) (count place : ℕ) (are : AreFlags ws count) where
+  pub word_there : (word : ℕ) → place < length ws → word ≡ get_or ws place word → IsWordOf (flags ws count) place word
+  word_there word there read = grind (arith, nat_tests, get_or_read, marked_is)
+
+  pub word_past : length ws ≤ place → IsWordOf (flags ws count) place 0
+  word_past past = record { bits = λ i lt. rw (marked_is ws count (place * 64 + i) are, flag_past ws (place * 64 + i) (omega (arith, past)), bit_at-zero i) refl }
+
+-- a bit of a word
+pub mark_in : (marks : List Bool) (index word : ℕ) → IsWordOf marks (index / 64) word → (bit_at word (index % 64) == 1) ≡ is_marked marks index
+mark_in marks index word of = let here : index / 64 * 64 + index % 64 ≡ index = omega arith in of.bits (index % 64) (omega arith) ∙ ap (is_marked marks) here
+
+-- a word without a bit, and one of which each is set
+pub none_in : (marks : List Bool) (place word : ℕ) → IsWordOf marks place word → word ≡ 0 → HasNoMark marks place
+none_in marks place word of none i at = grind (arith, nat_tests)
+
+pub all_in : (marks : List Bool) (place word : ℕ) → IsWordOf marks place word → word ≡ 2 ^ 64 - 1 → HasAllMarks marks place
+all_in marks place word of full i at =
+    let here : place * 64 + i % 64 ≡ i = omega (arith, at) in
+    let is_set : bit_at word (i % 64) ≡ 1 = rw full (bit_at_ones 64 (i % 64) (omega arith)) in
+    ap (is_marked marks) (sym here) ∙ sym (of.bits (i % 64) (omega arith)) ∙ ap (λ b. b == 1) is_set
+
+-- what is marked is there
+pub marked_below : (marks : List Bool) (i : ℕ) → is_marked marks i ≡ true → i < length marks
+marked_below marks i is = grind (arith, nat_tests, get_or_past)
+
+-- A search by words: what is passed, and what is found
+
+-- no index from one on, below a bit of a word, is marked
+pub record IsClearTo (marks : List Bool) (from place bit : ℕ) : Type 0 where
+  pub few : bit < 64
+  pub after : from ≤ place * 64 + bit
+  pub none : (i : ℕ) → from ≤ i → i < place * 64 + bit → is_marked marks i ≡ false
+
+pub clear_here : (marks : List Bool) (from : ℕ) → IsClearTo marks from (from / 64) (from % 64)
+clear_here marks from = record { few = omega arith; after = omega arith; none = λ i le lt. absurd (omega (arith, le, lt)) }
+
+module _ (marks : List Bool) (from place bit : ℕ) (clear : IsClearTo marks from place bit) where
+  pub none_past : (words : ℕ) → length marks ≤ 64 * words → words ≤ place → IsNextMark marks from None
+  none_past words within past = grind (arith, nat_tests, none-some, cases_lt, get_or_past)
+
+  module _ (word : ℕ) (of : IsWordOf marks place word) where
+    -- below the lowest bit that is set
+    before_lowest : (answer : Option ℕ) → IsLowestBit word bit answer → (i : ℕ) → from ≤ i → i < place * 64 + 64 → (place * 64 ≤ i → IsBefore (i % 64) answer) → is_marked marks i ≡ false
+    before_lowest answer lowest i le lt before = grind (arith, nat_tests)
+
+    pub passed : IsLowestBit word bit None → IsClearTo marks from (place + 1) 0
+    passed lowest =
+        record {
+          few = omega arith;
+          after = omega (arith, clear.few, clear.after);
+          none = λ i le lt. before_lowest None lowest i le (omega (arith, lt)) (λ from_here. tt);
+        }
+
+    -- and the words behind that one, as far as they have no flag
+    pub summed : (words : List Bool) (next : ℕ) → AreSummed marks words → place + 1 ≤ next → ((w : ℕ) → place + 1 ≤ w → w < next → is_marked words w ≡ false) → IsLowestBit word bit None → IsClearTo marks from next 0
+    summed words next are le none lowest = grind (arith, nat_tests)
+
+    pub found : (marked : ℕ) → IsLowestBit word bit (Some marked) → IsNextMark marks from (Some (place * 64 + marked))
+    found marked lowest =
+        let low = lowest.found marked refl in
+        record {
+          found = λ n is.
+              subst (λ m. (from ≤ m) × (is_marked marks m ≡ true)) (same_Some (place * 64 + marked) n is)
+              (omega (arith, clear.after, low.0), sym (of.bits marked low.1) ∙ ap (λ b. b == 1) low.2);
+          unmarked = λ i le before. before_lowest (Some marked) lowest i le (omega (arith, before, low.1)) (λ from_here. omega (arith, before, from_here));
+        }
+
+-- ---- Marks that are tests of the parts beside which they stand.
+
+-- what is marked there passes the test
+marked_at : {X : Type 0} (p : X → Bool) (xs : List X) (i : ℕ) → is_marked (map p xs) i ≡ true → IsAt (λ x. p x ≡ true) xs i
+marked_at p [] i is = absurd (true≢false (sym is))
+marked_at p (x ∷ xs) zero is = (x, refl, is)
+marked_at p (x ∷ xs) (suc i) is = marked_at p xs i is
+
+marked_by : {X : Type 0} (p : X → Bool) (xs : List X) → AreMarked (λ x. p x ≡ false) xs (map p xs)
+marked_by p [] = tt
+marked_by p (x ∷ xs) = (λ is. is, marked_by p xs)
+
+-- where no part passes
+pub none_has : {X : Type 0} (p : X → Bool) (xs : List X) (from : ℕ) → ((i : ℕ) (x : X) → slice_get xs i ≡ Some x → p x ≡ false) → IsLeast (IsAt (λ x. p x ≡ true) xs) from None
+none_has p xs from none = least_by (IsAt (λ x. p x ≡ true) xs) from None (λ n is. absurd (none-some n is)) (λ i ge before (x, at, is). both_ways (p x) (none i x at) is)
+
+module _ {X : Type 0} (p : X → Bool) (xs : List X) (ms : List Bool) (is : ms ≡ map p xs) where
+  pub are_marked : AreMarked (λ x. p x ≡ false) xs ms
+  are_marked = subst (AreMarked (λ x. p x ≡ false) xs) (sym is) (marked_by p xs)
+
+  pub mark_of : (i : ℕ) (x : X) → i < length xs → x ≡ get_or xs i x → is_marked ms i ≡ p x
+  mark_of i x there at = ap (λ l. is_marked l i) is ∙ get_or-map p xs i x false there ∙ ap p (sym at)
+
+  pub mark_at : (i : ℕ) (x : X) → slice_get xs i ≡ Some x → is_marked ms i ≡ p x
+  mark_at i x at = mark_of i x (slice_get_within xs i x at) (sym (get_or_from_slice_get xs i x x at))
+
+  pub at_mark : (i : ℕ) → is_marked ms i ≡ true → IsAt (λ x. p x ≡ true) xs i
+  at_mark i marked = marked_at p xs i (ap (λ l. is_marked l i) (sym is) ∙ marked)
+
+  pub exact_marked_small : length xs ≤ 2 ^ 60 → (i : ℕ) → is_marked ms i ≡ true → i < 2 ^ 60
+  exact_marked_small few i marked = (let there = marked_below ms i marked in let len = ap length is ∙ length-map xs p in omega (arith, there, len, few))
+
+  -- a search over the marks is one over the parts
+  pub marked_least : (from : ℕ) (r : Option ℕ) → IsNextMark ms from r → IsLeast (IsAt (λ x. p x ≡ true) xs) from r
+  marked_least from r next =
+      least_by (IsAt (λ x. p x ≡ true) xs) from r (λ n found. ((next.found n found).0, at_mark n (next.found n found).1))
+      (λ i ge before (x, at, has). both_ways (p x) (sym (mark_at i x at) ∙ next.unmarked i ge before) has)
+
+  pub found_small : length xs ≤ 2 ^ 60 → (r : Option ℕ) → ((n : ℕ) → r ≡ Some n → is_marked ms n ≡ true) → IfSome r (λ n. n < 2 ^ 60)
+  found_small few None marked = tt
+  found_small few (Some n) marked = exact_marked_small few n (marked n refl)
+
+-- ---- The least mark of a row that changes, and what sums it up.
+
+-- where none is marked between, a search may begin past them
+pub next_past : (marks : List Bool) (from past : ℕ) (r : Option ℕ) → from ≤ past → ((i : ℕ) → from ≤ i → i < past → is_marked marks i ≡ false) → IsNextMark marks past r → IsNextMark marks from r
+next_past marks from past r le clear next = record {
+  found = λ n is. (let f = next.found n is in (omega (arith, le, f.0), f.1));
+  unmarked = λ i at before. elim (cases_lt i past) [ inl lt ↦ clear i at lt | inr ge ↦ next.unmarked i ge before ];
+}
+
+module _ (marks others told : List Bool) (from : ℕ) where
+  -- none is left where none is marked
+  pub none_left : IsNextMark marks 0 None → IsNextMark (untold (both marks others) told) from None
+  none_left next = grind (arith, nat_tests, none-some, left_below, not_both)
+
+  -- nor where all were told up to the last mark
+  pub none_past_first : (past below : ℕ) → past ≤ below → AreUnmarkedFrom marks past → AreMarkedBelow told below → IsNextMark (untold (both marks others) told) from None
+  none_past_first past below few clear full = grind (arith, nat_tests, none-some, cases_lt, both_told_below, left_below, not_both)
+
+  -- nor below the first mark, nor below one where all were told
+  pub left_from : (first below past : ℕ) (r : Option ℕ) → past ≡ max (max from first) below → IsNextMark marks 0 (Some first) → AreMarkedBelow told below → IsNextMark (untold (both marks others) told) past r → IsNextMark (untold (both marks others) told) from r
+  left_from first below past r is next full =
+      next_past (untold (both marks others) told) from past r (omega (arith, is))
+      (λ i le lt. elim (cases_lt i first) [
+        | inl under ↦ left_below (both marks others) told i (not_both marks others i (next.unmarked i (omega arith) under))
+        | inr over ↦ both_told_below (both marks others) told i (full i (omega (arith, is, le, lt, over)))
+      ])
+
+-- none is marked past them
+pub unmarked_opened : {A E : Type 0} (r : Result A E) (marks now : List Bool) (n past : ℕ) → OnOk r (now ≡ marks ++ replicate n false) → OnErr r (now ≡ marks) → AreUnmarkedFrom marks past → AreUnmarkedFrom now past
+unmarked_opened r marks now n past ok err clear = grind (arith, nat_tests, padded)
+
+pub unmarked_set : (marks : List Bool) (k past now : ℕ) (b : Bool) → past ≤ now → (b ≡ true → k < now) → AreUnmarkedFrom marks past → AreUnmarkedFrom (set marks k b) now
+unmarked_set marks k past now b le under clear i ge = grind (arith, nat_tests, get_or-set_other, get_or-set_at, get_or_past, length-set)
+
+module _ (marks : List Bool) (k : ℕ) (there : k < length marks) (r : Option ℕ) (next : IsNextMark marks 0 r) where
+  -- one is marked
+  pub next_marked : IsNextMark (set marks k true) 0 (least_of r (Some k))
+  next_marked = grind (arith, nat_tests, get_or-set_other, set, get_or-set_same, cases_eq, same_Some, cases_lt)
+
+  -- another one's mark is taken away
+  pub next_cleared : false ≡ option_eq (λ a b. a == b) r (Some k) → IsNextMark (set marks k false) 0 r
+  next_cleared differs = grind (arith, nat_tests, get_or-set_other, cases_eq, get_or-set_at, none-some, eqb-false, same_Some)
+
+-- Words that sum up marks
+
+-- a flag for each word of marks that opens
+module _ {A E : Type 0} (r : Result A E) (marks words marks_now words_now : List Bool) (count n : ℕ) (are : AreSummed marks words) (enough : count ≤ 64 * n) (is : words_now ≡ words ++ replicate (n - length words) false) where
+  pub summed_open : OnOk r (marks_now ≡ marks ++ replicate (count - length marks) false) → OnErr r (marks_now ≡ marks) → AreSummed marks_now words_now
+  summed_open = grind (arith, nat_tests, replicate, length-append, length-replicate, padded)
+
+-- indexes without a mark are opened
+pub next_open : {A E : Type 0} (r : Result A E) (marks now : List Bool) (n : ℕ) (first : Option ℕ) → OnOk r (now ≡ marks ++ replicate n false) → OnErr r (now ≡ marks) → IsNextMark marks 0 first → IsNextMark now 0 first
+next_open r marks now n first ok err next = grind (arith, nat_tests, padded)
+
+-- one mark is set or taken away, and its word's flag with it
+module _ (marks words marks_now words_now : List Bool) (i : ℕ) (b has : Bool) (are : AreSummed marks words) (there : i < length marks) (is : marks_now ≡ set marks i b) (looked : has ≡ false → HasNoMark marks_now (i / 64)) (flags : words_now ≡ set words (i / 64) has) where
+  pub summed_set : AreSummed marks_now words_now
+  summed_set = grind (arith, common_steps, length-set, cases_lt)
+
+-- ---- Words of which each index is marked: one changes, or more are opened.
+
+-- a flag for each word of marks that opens
+module _ {A E : Type 0} (r : Result A E) (marks full marks_now full_now : List Bool) (count n : ℕ) (are : AreFull marks full) (enough : count ≤ 64 * n) (is : full_now ≡ full ++ replicate (n - length full) false) where
+  all : (word : ℕ) → is_marked full_now word ≡ true → HasAllMarks marks word
+  all word whole = are.all word (sym (ap (λ xs. is_marked xs word) is ∙ padded full (n - length full) word false) ∙ whole)
+
+  pub full_open : OnOk r (marks_now ≡ marks ++ replicate (count - length marks) false) → OnErr r (marks_now ≡ marks) → AreFull marks_now full_now
+  full_open = grind (arith, nat_tests, replicate, length-append, length-replicate, padded)
+
+-- each index of that word is marked now
+pub full_here : (marks full marks_now full_now : List Bool) (i w : ℕ) (b : Bool) → AreFull marks full → i < length marks → marks_now ≡ set marks i b → IsWordOf marks_now (i / 64) w → w ≡ 2 ^ 64 - 1 → full_now ≡ set full (i / 64) (w == 2 ^ 64 - 1)
+    → AreFull marks_now full_now × (full_now ≡ set full (i / 64) true)
+full_here marks full marks_now full_now i w b are there is of whole flags = grind (arith, common_steps, all_in)
+
+-- below a word each has a flag
+pub below_opened : (full : List Bool) (n first : ℕ) → AreMarkedBelow full first → AreMarkedBelow (full ++ replicate n false) first
+below_opened full n first below i lt = padded full n i false ∙ below i lt
+
+module _ (full : List Bool) (word : ℕ) (there : word < length full) where
+  pub below_more : (first : ℕ) → AreMarkedBelow full first → AreMarkedBelow (set full word true) first
+  below_more first below i lt = grind (arith, get_or-set_at full word i true false, get_or-set_other full word i true false, below i)
+
+  -- and the next one has one now
+  pub below_next : AreMarkedBelow full word → AreMarkedBelow (set full word true) (word + 1)
+  below_next below i lt = grind (arith, get_or-set_at full word i true false, get_or-set_other full word i true false, below i)
+
+-- below the first bit that isn't set in the first word without a flag, each is marked
+pub below_here : (marks full : List Bool) (first w : ℕ) (r : Option ℕ) → AreFull marks full → AreMarkedBelow full first → IsWordOf marks first w → w < 2 ^ 64 → IsLowestBit (bit_not w64 w) 0 r → (below : ℕ) → below ≤ first * 64 + unwrap_or r 64 → AreMarkedBelow marks below
+below_here marks full first w r are whole of fits lowest below le i lt =
+    elim (cases_lt i (first * 64)) [
+      | inl under ↦ are.all (i / 64) (whole (i / 64) (omega (arith, under))) i refl
+      | inr over ↦ (let j : ℕ = i - first * 64 in let at : i ≡ first * 64 + j = omega (arith, over) in subst (λ k. is_marked marks k ≡ true) (sym at) (here j r refl (omega (arith, lt, le, at))))
+    ]
+  where
+    here : (j : ℕ) → (s : Option ℕ) → s ≡ r → j < unwrap_or s 64 → is_marked marks (first * 64 + j) ≡ true
+    here j s is under = let small : j < 64 = within s is under in sym (of.bits j small) ∙ eq-eqb (bit_at w j) 1 (omega (arith, bit_at_not w64 w j fits small, lowest.clear j (omega arith) small (before s is under), bit_at-lt w j))
+      where
+        within : (t : Option ℕ) → t ≡ r → j < unwrap_or t 64 → j < 64
+        within None e lt = lt
+        within (Some n) e lt = let f = lowest.found n (sym e) in omega (arith, lt, f.1)
+
+        before : (t : Option ℕ) → t ≡ r → j < unwrap_or t 64 → IsBefore j r
+        before None e lt = subst (IsBefore j) e tt
+        before (Some n) e lt = subst (IsBefore j) e lt
+
+-- ---- Marks of receiving halves that have an answer for their owner.
+
+-- the mark of an index tells whether the lane there has an answer
+pub recv_mark_is : (t : RecvTask) (xs : List RecvLane) (i : ℕ) → is_marked (map (has t) xs) i ≡ has_one t (slice_get xs i)
+recv_mark_is t [] i = mark_past [] i (omega arith)
+recv_mark_is t (x ∷ xs) zero = refl
+recv_mark_is t (x ∷ xs) (suc i) = recv_mark_is t xs i
+
+held_at : (t : RecvTask) (recvs : Tables RecvLane) (n : ℕ) (o : Option RecvLane) → lookup recvs n ≡ o → has_one t o ≡ true → IsHeld (HasOne t) recvs n
+held_at t recvs n None at is = absurd (true≢false (sym is))
+held_at t recvs n (Some l) at is = (l, at, is)
+
+-- the marks of the streams of a type
+module _ (t : RecvTask) (recvs : Tables RecvLane) (ms : List Bool) (k : ℕ) (small : k < 4) (marks : (n : ℕ) → type_of n ≡ k → is_marked ms (n / 4) ≡ has_one t (lookup recvs n)) where
+  marked_held : (n : ℕ) → type_of n ≡ k → is_marked ms (n / 4) ≡ true → IsHeld (HasOne t) recvs n
+  marked_held n kind is = held_at t recvs n (lookup recvs n) refl (sym (marks n kind) ∙ is)
+
+  held_marked : (n : ℕ) → type_of n ≡ k → IsHeld (HasOne t) recvs n → is_marked ms (n / 4) ≡ true
+  held_marked n kind (l, at, is) = marks n kind ∙ ap (has_one t) at ∙ is
+
+  pub none_recv_marked : AreEndsMarked (HasOne t) recvs k ms
+  none_recv_marked n kind none held = both_ways (is_marked ms (n / 4)) none (held_marked n kind held)
+
+  -- a search over them is one over the streams
+  pub next_held : (from first : ℕ) (r : Option ℕ) → first ≡ (from + 3 - k) / 4 → IsNextMark ms first r → IsLeast (IsHeldOf (HasOne t) recvs k) from (option_map (λ i. i * 4 + k) r)
+  next_held from first r begin = next_of (IsHeld (HasOne t) recvs) ms k from first small begin held_marked marked_held r
+
+  pub next_untold : (told : Tables Bool) (r : Option ℕ) → IsNextMark (untold (both ms ms) (table told k)) 0 r → IsLeast (IsUntoldOf (IsHeld (HasOne t) recvs) told k) 0 (option_map (λ i. i * 4 + k) r)
+  next_untold told r next =
+      next_of (IsUntold (IsHeld (HasOne t) recvs) told) (untold ms (table told k)) k 0 0 small (omega (arith, small))
+      (λ n kind (held, free). untold_is ms (table told k) (n / 4) ∙ ap (λ b. b && not (is_marked (table told k) (n / 4))) (held_marked n kind held) ∙ ap not (sym (told_of told n k kind) ∙ free))
+      (λ n kind is. (let left = left_at ms (table told k) (n / 4) is in (marked_held n kind left.0, told_of told n k kind ∙ left.1)))
+      r (next_self ms (table told k) 0 r next)
+
+-- a mark that is left is one
+pub untold_within : (ms ts : List Bool) (i : ℕ) → is_marked (untold (both ms ms) ts) i ≡ true → i < length ms
+untold_within ms ts i is = marked_below ms i (ap (λ xs. is_marked xs i) (sym (both_self ms)) ∙ (left_at (both ms ms) ts i is).0)
+
+-- an open stream has a mark
+pub open_within : (recvs : Tables RecvLane) (n : ℕ) (o : Option RecvLane) → lookup recvs n ≡ o → is_some o ≡ true → n / 4 < length (table recvs (n % 4))
+unfolding lookup
+open_within recvs n o at is = grind (arith, nat_tests, slice_get_within)
+
+-- A reader of such a lane waits, where what was told was an end or a reset (RFC 9000, sections 2.2 and 3.2)
+
+waits_by : (o : Option ℕ) (l : RecvLane) (size : ℕ) → tells_something (answer_by o l 1) ≡ false → answer_by o l size ≡ Wait
+waits_by o l size h = grind (arith, nat_tests)
+
+-- one that was stopped, and hasn't come to its end
+waits_off : (o : Option ℕ) (l : RecvLane) (size : ℕ) → is_some l.stop_code ≡ true → (is_some o || is_whole l) ≡ false → answer_by o l size ≡ Wait
+waits_off o l size off h = grind (arith, nat_tests)
+
+pub waits : (l : RecvLane) (size : ℕ) → (l.reader_done ≡ true → (recv_ended l ≡ true) ⊎ (is_some l.stop_code ≡ true)) → ((t : RecvTask) → HasNone t l) → read_answer l size ≡ Wait
+waits l size told none = go l.reader_done refl
+  where
+    go : (b : Bool) → l.reader_done ≡ b → read_answer l size ≡ Wait
+    go true is = elim (told is) [
+      | inl ended ↦ absurd (both_ways (recv_ended l) (none tasks.Ended) ended)
+      | inr off ↦ waits_off l.reset_code l size off (ap (λ b. b && (is_some l.reset_code || is_whole l)) (sym is) ∙ none tasks.Ended)
+    ]
+    go false is = waits_by l.reset_code l size (ap (λ b. not b && tells_something (read_answer l 1)) (sym is) ∙ none tasks.Readable)
+
+-- a lane was changed and then looked at
+pub noted_again : (xs : List RecvLane) (old new : RecvMarks) (i : ℕ) (y : RecvLane) → ((t : RecvTask) → marks_of new t ≡ slice_set (marks_of old t) i (has t y)) → AreNoted xs old → AreNoted (list.set xs i y) new
+noted_again xs old new i y looked h t = looked t ∙ ap (λ ms. slice_set ms i (has t y)) (h t) ∙ sym (map-set (has t) xs i y)
+
+-- some lanes leave
+pub noted_fewer : (n : ℕ) (xs : List RecvLane) (old new : RecvMarks) → ((t : RecvTask) → marks_of new t ≡ take n (marks_of old t)) → AreNoted xs old → AreNoted (take n xs) new
+noted_fewer n xs old new is h t = is t ∙ ap (take n) (h t) ∙ take-map (has t) n xs
+
+-- a lane begins without an answer
+pub begins_without : (t : RecvTask) (window : ℕ) (share : Share) → HasNone t (new_lane window share)
+begins_without tasks.Readable window share = ap tells_something (not_chosen _ _ Wait (set.contains-empty nat_cmp 0))
+begins_without tasks.Ended window share = refl
+
+begun_without : (t : RecvTask) (window : ℕ) (share : Share) (lo n : ℕ) → map (has t) (map (λ (i : ℕ). new_lane window share) (range_with_len lo n)) ≡ replicate n false
+begun_without t window share lo zero = refl
+begun_without t window share lo (suc n) = rw (begins_without t window share, begun_without t window share (lo + 1) n) refl
+
+-- lanes open
+pub noted_opened : (window : ℕ) (share : Share) (xs now : List RecvLane) (old new : RecvMarks) (count n m : ℕ) → now ≡ xs ++ map (λ (i : ℕ). new_lane window share) (range_with_len (length xs) n) → n ≤ m → m ≤ n → m ≡ count - length xs
+    → ((t : RecvTask) → marks_of new t ≡ marks_of old t ++ replicate (count - length (marks_of old t)) false) → AreNoted xs old → AreNoted now new
+noted_opened window share xs now old new count n m is le ge missing at h t = grind (arith, nat_tests, length-map, begun_without, map-append)
+
+pub has_raised : (t : RecvTask) (l : RecvLane) → has t (raise l) ≡ has t l
+has_raised t l = grind (arith, nat_tests)
+
+raised_marks : (t : RecvTask) (xs : List RecvLane) → map (has t) (map raise xs) ≡ map (has t) xs
+raised_marks t [] = refl
+raised_marks t (x ∷ xs) = rw (has_raised t x, raised_marks t xs) refl
+
+pub noted_raised : (xs : List RecvLane) (marks : RecvMarks) → AreNoted xs marks → AreNoted (map raise xs) marks
+noted_raised xs marks h t = h t ∙ sym (raised_marks t xs)

@@ -1,5 +1,6 @@
 -- What stands in the slice behind a packet in the making stays as it was.
-use Rattle.std.proofs.Common.{◌≡◌, ℕ, ◌+◌, ◌-◌, ◌≤◌, List, [], ◌++◌, length, take, drop, sym, ap, ◌∙◌, arith, refl, Option, Some}
+use Rattle.std.proofs.lemmas.Bool.Decides.{nat_tests}
+use Rattle.std.proofs.Common.{◌≡◌, ℕ, ◌+◌, ◌-◌, ◌≤◌, List, [], ◌++◌, length, drop, sym, ap, ◌∙◌, arith, refl, Option, Some}
 use Rattle.std.specs.Prelude.{Result, Ok}
 use Rattle.std.proofs.lemmas.List.{drop-drop, take-append-drop, length-take-le}
 use Rattle.qs_calls.specs.declared.filling.Filled.{Filled}
@@ -23,8 +24,7 @@ rest_on a b c xs ys zs (le, first) (more, next) = (omega (arith, le, more), next
 
 -- the slice with a packet in it
 pub rest_kept : (made : Made) (before after : List ℕ) → made.len ≤ length after → drop made.len after ≡ drop made.len before → KeepsRest (Ok (Some made)) before after
-rest_kept made before after within same =
-    sym (take-append-drop made.len after) ∙ ap (λ x. take made.len after ++ x) (same ∙ ap (λ k. drop k before) (sym (length-take-le made.len after within)))
+rest_kept made before after within same = grind (arith, nat_tests, take-append-drop, length-take-le)
 
 -- the slice without one
 pub rest_none : (answer : Result (Option Made) MakeFault) (out : List ℕ) → made_text answer out ≡ [] → KeepsRest answer out out
@@ -32,8 +32,7 @@ rest_none answer out none = sym (ap (λ t. t ++ drop (length t) out) none)
 
 -- the slice with what was filled in
 pub behind_kept : (filled : Filled) (before after : List ℕ) → filled.len ≤ length after → drop filled.len after ≡ drop filled.len before → KeepsBehind (Ok (Some filled)) before after
-behind_kept filled before after within same =
-    sym (take-append-drop filled.len after) ∙ ap (λ x. take filled.len after ++ x) (same ∙ ap (λ k. drop k before) (sym (length-take-le filled.len after within)))
+behind_kept filled before after within same = grind (arith, nat_tests, take-append-drop, length-take-le)
 
 pub behind_none : (answer : Result (Option Filled) MakeFault) (out : List ℕ) → filled_text answer out ≡ [] → KeepsBehind answer out out
 behind_none answer out none = sym (ap (λ t. t ++ drop (length t) out) none)

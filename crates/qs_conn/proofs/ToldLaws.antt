@@ -1,5 +1,5 @@
 -- What the acknowledged control items are, as std's maps and the sets of numbers keep them.
-use Rattle.std.proofs.Common.{◌≡◌, ◌∙◌, ℕ, cond, nat_eq, List, [], ◌∷◌, Option, None, Some, refl, sym, ap, arith}
+use Rattle.std.proofs.Common.{◌≡◌, ◌∙◌, ℕ, cond, nat_eq, List, Option, None, Some, sym, ap, arith}
 use Rattle.std.specs.Option.{unwrap_or}
 use Rattle.std.specs.Ordering.{nat_cmp}
 use Rattle.std.specs.Cmp.{nat_cmp_total, unsigned_tied}
@@ -12,8 +12,7 @@ use Rattle.std.proofs.lemmas.Bool.Decides.{nat_tests}
 use Rattle.qs_machine.specs.FrameStep.{or_zero}
 
 find-lookup : (es : List (ℕ × ℕ)) (q : ℕ) → fmap.find nat_cmp q es ≡ lookup (is_at (nat_cmp q)) es
-find-lookup [] q = refl
-find-lookup (e ∷ es) q = ap (cond (is_at (nat_cmp q) e.0) (Some e.1)) (find-lookup es q)
+find-lookup es q = grind (arith, nat_tests)
 
 -- the map of the entries of a std map answers as that does
 pub value_at : (m : BTreeMap ℕ ℕ) (q : ℕ) → fmap.get (fmap.from_entries {R = nat_cmp} m.entries) q ≡ tree.get nat_cmp m q
@@ -35,5 +34,4 @@ inserted m n k w updates = same_map nat_cmp_total nat_cmp-IsAntisymmetric _ _ (�
     ∙ sym (fmap.get-insert nat_cmp_total (fmap.from_entries m.entries) k w q ∙ ap (cond (is_at (nat_cmp q) k) (Some w)) (value_at m q)))
 
 pub or_zero-unwrap : (o : Option ℕ) → unwrap_or o 0 ≡ or_zero o
-or_zero-unwrap None = refl
-or_zero-unwrap (Some v) = refl
+or_zero-unwrap o = grind (arith, nat_tests)

@@ -41,7 +41,7 @@ impl Bits {
         }
     }
 
-    #[tactic(auto, using(crate::proofs::Words::flags_len))]
+    #[tactic(auto, using(crate::proofs::Marked::flags_len))]
     pub(crate) fn len(&self) -> usize
         ensures value { result ≡ length self.now }
         ensures small { result < 2 ^ 64 }
@@ -50,7 +50,7 @@ impl Bits {
     }
 
     /// How many words they take.
-    #[tactic(auto, using(crate::proofs::Words::flags_len))]
+    #[tactic(auto, using(crate::proofs::Marked::flags_len))]
     pub(crate) fn words(&self) -> usize
         ensures room { length self.now ≤ 64 * result }
         ensures few { result ≤ 2 ^ 58 }
@@ -59,6 +59,7 @@ impl Bits {
     }
 
     #[inline(always)]
+    #[tactic(auto, using(crate::proofs::Marked::flags_len, crate::proofs::Marked::none_opened, crate::proofs::Marked::flags_room))]
     pub(crate) fn open_to(&mut self, count: usize) -> Result<(), NoMemory>
         ensures ok { OnOk result (self.new ≡ self.old ++ replicate (count - length self.old) false) }
         ensures err { OnErr result (self.new ≡ self.old) }
@@ -102,7 +103,8 @@ impl Bits {
         self.count = count;
     }
 
-    #[tactic(auto, using(crate::proofs::Words::mark_in))]
+    #[tactic(auto, using(crate::proofs::Marked::mark_in))]
+    #[inline(always)]
     pub(crate) fn has(&self, index: usize) -> bool
         ensures { result ≡ is_marked self.now index }
     {
@@ -110,6 +112,7 @@ impl Bits {
         has_bit(word, index % FLAGS_PER_WORD)
     }
 
+    #[inline(always)]
     pub(crate) fn set(&mut self, index: usize, is_marked: bool)
         requires { index < length self.old }
         ensures { self.new ≡ slice_set self.old index is_marked }
@@ -131,6 +134,8 @@ pub(crate) trait Row {
 impl Row for Bits {
     ghost flags = { λ m. m };
 
+    #[inline(always)]
+    #[tactic(auto, using(crate::proofs::Marked::word_there, crate::proofs::Marked::word_past))]
     fn word(&self, place: usize) -> u64 {
         if place >= self.words.len() {
             return 0;
@@ -171,6 +176,7 @@ impl Row for Left<'_> {
     }
 }
 
+#[inline(always)]
 fn has_bit(word: u64, bit: usize) -> bool
     requires { bit < 64 }
     ensures { result ≡ (bit_at word bit == 1) }
@@ -178,7 +184,7 @@ fn has_bit(word: u64, bit: usize) -> bool
     (word >> bit) & 1 == 1
 }
 
-#[tactic(auto, using(crate::proofs::Words::bits_cut))]
+#[tactic(auto, using(crate::proofs::Marked::bits_cut))]
 fn cut_at(word: u64, bit: usize) -> u64
     requires { bit < 64 }
     ensures { IsCutAt word bit result }

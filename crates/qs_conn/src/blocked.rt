@@ -1,5 +1,5 @@
 //! What the peer said blocks it, until the application is notified. It is no state of an endpoint, so it is kept beside.
-ghost use Rattle.std.specs.Prelude.{◌≡◌, ◌<◌, ◌^◌, true, None, OnOk, OnErr};
+ghost use Rattle.std.specs.Prelude.{◌≡◌, ◌<◌, ◌^◌, true, None, OnOk, OnErr, IfSome};
 ghost use Rattle.qs_machine.specs.Heard.{nothing_blocked, is_held_back, with_held_back, is_told, IsToldBeside, IsForgotten};
 ghost use Rattle.qs_machine.specs.News.{IsLeast};
 ghost use Rattle.qs_machine.specs.Tables.{lookup};
@@ -7,7 +7,7 @@ ghost use Rattle.qs_conn.specs.ByDir.{IsFirstDir};
 ghost use Rattle.qs_conn.specs.Hearing.{IsToldOf};
 
 use crate::by_dir::ByDir;
-use crate::places::lesser;
+use crate::places::least_stream;
 use crate::told_streams::ToldStreams;
 use qs_ranges::NoMemory;
 use qs_wire::{Dir, StreamId};
@@ -38,7 +38,7 @@ impl Model for BlockedMarks {
 }
 
 impl BlockedMarks {
-    #[tactic(auto, using(crate::proofs::ToldSearch::none_marked))]
+    #[tactic(auto, using(crate::proofs::Marked::none_marked))]
     pub(crate) fn new(alloc: Global) -> Self
         ensures { result ≡ nothing_blocked }
     {
@@ -101,18 +101,25 @@ impl BlockedMarks {
     pub(crate) fn next_stream(&self) -> Option<StreamId>
         ensures { IsLeast (λ n. is_told self.now.streams n ≡ true) 0 result }
     {
-        let bidi = lesser(self.next_of(0), self.next_of(1));
-        let uni = lesser(self.next_of(2), self.next_of(3));
-        lesser(bidi, uni)
+        if !self.streams.may_have() {
+            return None;
+        }
+        least_stream(
+            self.next_of(0),
+            self.next_of(1),
+            self.next_of(2),
+            self.next_of(3),
+        )
     }
 
-    fn next_of(&self, stream_type: usize) -> Option<StreamId>
+    fn next_of(&self, stream_type: usize) -> Option<u64>
         requires { stream_type < 4 }
-        ensures { IsLeast (IsToldOf self.now.streams stream_type) 0 result }
+        ensures least { IsLeast (IsToldOf self.now.streams stream_type) 0 result }
+        ensures small { IfSome result (λ n. n < 2 ^ 62) }
     {
         let told = self.streams.of_type(stream_type);
         match told.marks().next(0) {
-            Some(index) => StreamId::new((index * 4 + stream_type) as u64),
+            Some(index) => Some((index * 4 + stream_type) as u64),
             None => None,
         }
     }

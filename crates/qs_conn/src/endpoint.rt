@@ -116,6 +116,7 @@ impl Model for Endpoint {
 impl Endpoint {
     /// A new endpoint. Refused if a setting is out of its range, or if the peer permits more streams than have a number (RFC 9000, section
     /// 4.6).
+    #[tactic(auto, using(qs_machine::proofs::Counts::no_wide_fault))]
     pub fn new(
         alloc: Global,
         role: Role,
@@ -192,7 +193,7 @@ impl Endpoint {
     }
 
     /// How many bytes are stored: at most what was granted beyond what was consumed.
-    #[tactic(auto, using(crate::proofs::Counted::within_counted))]
+    #[tactic(auto, using(crate::proofs::Cores::within_counted))]
     pub fn stored(&self) -> u64
         ensures exact { result ≡ all_stored self.now }
         ensures within { IsWithinCredit self.now }

@@ -51,7 +51,7 @@ pub(crate) struct Wish {
 }
 
 /// `None` if it doesn't fit; then nothing is written, so the packet stays a text.
-#[tactic(auto, using(crate::proofs::Texts::behind_text))]
+#[tactic(auto, using(crate::proofs::Stages::behind_text))]
 fn put_frame(frame: &Frame<'_>, out: &mut [u8], len: usize) -> Option<usize>
     requires fits { Fits (view frame.now) }
     requires within { len ≤ length out.old }
@@ -71,6 +71,7 @@ fn put_frame(frame: &Frame<'_>, out: &mut [u8], len: usize) -> Option<usize>
 
 /// The bytes of a ring come in two pieces, and aren't joined first.
 #[inline(always)]
+#[tactic(auto, using(crate::proofs::Stages::behind_text))]
 fn put_data(
     id: StreamId,
     chunk: Chunk,
@@ -117,7 +118,7 @@ fn frame_of(item: &Item) -> Frame<'static>
     }
 }
 
-#[tactic(auto, using(crate::proofs::Putting::item_some))]
+#[tactic(auto, using(crate::proofs::MadePackets::item_some))]
 pub(crate) fn put_item(outbox: &mut Outbox, item: &Item, out: &mut [u8], packet: Packet) -> Packet
     requires within { packet.len ≤ length out.old }
     requires spare { HasOneSpare (length out.old) packet.len outbox.old.spare }

@@ -84,7 +84,7 @@ impl Heard {
     /// `NoMemory` if there was no memory to note it; then nothing changed, and it comes again. It takes memory if no mark was made yet for
     /// its stream, or a higher one of its type, among those of its kind: never for `Opened`, `Writable`, `Available` and the kinds behind
     /// it.
-    #[tactic(auto, using(crate::proofs::FirstNews::first_is_next, crate::proofs::FirstNews::refused_next))]
+    #[tactic(auto, using(crate::proofs::Hearing::first_is_next, crate::proofs::Hearing::refused_next))]
     pub fn next_news(&mut self, end: &Endpoint) -> Result<Option<News>, NoMemory>
         ensures { IsNextNews end.now self.old result self.new }
     {

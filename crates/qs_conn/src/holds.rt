@@ -11,7 +11,7 @@ pub(crate) trait Holds {
 }
 
 // Of a part nothing is known but what it says, so that is what is summed. By a walk: a sum would have to be kept at each call.
-#[tactic(auto, using(crate::proofs::Helds::sum_none, crate::proofs::Helds::sum_more))]
+#[tactic(auto, using(crate::proofs::Tasks::sum_none, crate::proofs::Tasks::sum_more))]
 pub(crate) fn sum_held<T: Holds>(parts: &[T]) -> u64
     ensures { IsSumOf T.IsHeld parts.now result }
 {

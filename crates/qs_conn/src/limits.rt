@@ -79,6 +79,7 @@ impl Limits {
 
     // No stream is looked at.
     #[inline(always)]
+    #[tactic(auto, using(crate::proofs::Carrieds::own_covered, crate::proofs::Untolds::of_slot))]
     fn has_told_blocked(&self, outbox: &Outbox, own: &OwnCarried) -> bool
         requires { AreOwn self.now outbox.now.outstanding own.now }
         ensures { result ≡ true → (recvs : Tables RecvLane) (e : End) → IsIdle (end_by self.now recvs outbox.now e) slots.DataBlocked }
@@ -146,7 +147,7 @@ impl Limits {
     }
 
     // Once it was raised: the first count was in the handshake.
-    #[tactic(auto, using(crate::proofs::Slots::max_streams_there, crate::proofs::Slots::max_streams_none))]
+    #[tactic(auto, using(crate::proofs::Untolds::max_streams_there, crate::proofs::Untolds::max_streams_none))]
     fn max_streams(&self, dir: Dir) -> Option<Item>
         requires { LimitsFit self.now }
         ensures current { (recvs : Tables RecvLane) (o : Outgoing) (e : End) → IsCurrentIn (end_by self.now recvs o e) (slots.MaxStreams dir) result }
@@ -163,7 +164,7 @@ impl Limits {
     }
 
     // Once it was raised, and while no final size is known: after that nobody needs it.
-    #[tactic(auto, using(crate::proofs::Slots::max_stream_data_there, crate::proofs::Slots::max_stream_data_none))]
+    #[tactic(auto, using(crate::proofs::Untolds::max_stream_data_there, crate::proofs::Untolds::max_stream_data_none))]
     fn max_stream_data(&self, recvs: &RecvTables, stream: StreamId) -> Option<Item>
         ensures current { (o : Outgoing) (e : End) → IsCurrentIn (end_by self.now recvs.now o e) (slots.MaxStreamData stream) result }
         ensures fits { ItemFits result }
@@ -189,7 +190,7 @@ impl Limits {
     }
 
     // Only while some stream has bytes that nothing else holds back, so that it is said of the limit that blocks.
-    #[tactic(auto, using(crate::proofs::Slots::data_blocked_there, crate::proofs::Slots::data_blocked_none))]
+    #[tactic(auto, using(crate::proofs::Untolds::data_blocked_there, crate::proofs::Untolds::data_blocked_none))]
     fn data_blocked(&self, outbox: &Outbox) -> Option<Item>
         requires { LimitsFit self.now }
         ensures current { (recvs : Tables RecvLane) (e : End) → IsCurrentIn (end_by self.now recvs outbox.now e) slots.DataBlocked result }
@@ -205,7 +206,7 @@ impl Limits {
     }
 
     // While it is still the peer's count: one that rose blocks nobody.
-    #[tactic(auto, using(crate::proofs::Slots::streams_blocked_there, crate::proofs::Slots::streams_blocked_none))]
+    #[tactic(auto, using(crate::proofs::Untolds::streams_blocked_there, crate::proofs::Untolds::streams_blocked_none))]
     fn streams_blocked(&self, dir: Dir) -> Option<Item>
         requires { LimitsFit self.now }
         ensures current { (recvs : Tables RecvLane) (o : Outgoing) (e : End) → IsCurrentIn (end_by self.now recvs o e) (slots.StreamsBlocked dir) result }
@@ -230,7 +231,7 @@ fn count_with(old: u64, granted: u64, lifetime: u64, ended: u64, grant: u64) -> 
     }
 }
 
-#[tactic(auto, using(crate::proofs::Slots::reset_there, crate::proofs::Slots::reset_none))]
+#[tactic(auto, using(crate::proofs::Untolds::reset_there, crate::proofs::Untolds::reset_none))]
 fn reset_stream(outbox: &Outbox, stream: StreamId) -> Option<Item>
     ensures current { (t : Limits) (recvs : Tables RecvLane) (e : End) → IsCurrentIn (end_by t recvs outbox.now e) (slots.ResetStream stream) result }
     ensures fits { ItemFits result }
@@ -243,7 +244,7 @@ fn reset_stream(outbox: &Outbox, stream: StreamId) -> Option<Item>
     })
 }
 
-#[tactic(auto, using(crate::proofs::Slots::stop_there, crate::proofs::Slots::stop_none))]
+#[tactic(auto, using(crate::proofs::Untolds::stop_there, crate::proofs::Untolds::stop_none))]
 fn stop_sending(recvs: &RecvTables, stream: StreamId) -> Option<Item>
     ensures current { (t : Limits) (o : Outgoing) (e : End) → IsCurrentIn (end_by t recvs.now o e) (slots.StopSending stream) result }
     ensures fits { ItemFits result }
@@ -252,7 +253,7 @@ fn stop_sending(recvs: &RecvTables, stream: StreamId) -> Option<Item>
     Some(Item::StopSending { stream, code })
 }
 
-#[tactic(auto, using(crate::proofs::Slots::stream_data_blocked_there, crate::proofs::Slots::stream_data_blocked_none))]
+#[tactic(auto, using(crate::proofs::Untolds::stream_data_blocked_there, crate::proofs::Untolds::stream_data_blocked_none))]
 fn stream_data_blocked(outbox: &Outbox, stream: StreamId) -> Option<Item>
     ensures current { (t : Limits) (recvs : Tables RecvLane) (e : End) → IsCurrentIn (end_by t recvs outbox.now e) (slots.StreamDataBlocked stream) result }
     ensures fits { ItemFits result }
@@ -261,7 +262,7 @@ fn stream_data_blocked(outbox: &Outbox, stream: StreamId) -> Option<Item>
     Some(Item::StreamDataBlocked { stream, limit })
 }
 
-#[tactic(auto, using(crate::proofs::Quiets::none_wants, crate::proofs::Quiets::wants_next))]
+#[tactic(auto, using(crate::proofs::Hearing::none_wants, crate::proofs::Hearing::wants_next))]
 fn any_wants_more(outbox: &Outbox) -> bool
     ensures { IsTrue result ↔ AnyWantsMore outbox.now.sends }
 {

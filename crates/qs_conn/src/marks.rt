@@ -1,5 +1,5 @@
 //! Which streams of one type may have something to send or to tell.
-ghost use Rattle.std.specs.Prelude.{◌≡◌, ◌++◌, ◌+◌, ◌*◌, ◌-◌, ◌<◌, ◌≤◌, ◌^◌, ℕ, [], true, false, Some, length, take, slice_set, replicate, OnOk, OnErr};
+ghost use Rattle.std.specs.Prelude.{List, Bool, None, ◌≡◌, ◌++◌, ◌+◌, ◌*◌, ◌-◌, ◌<◌, ◌≤◌, ◌^◌, ℕ, [], true, false, Some, length, take, slice_set, replicate, OnOk, OnErr};
 ghost use Rattle.qs_conn.specs.Marks.{is_marked, IsNextMark, AreSummed, AreUnmarkedFrom, least_of, both, untold};
 ghost use Rattle.qs_conn.specs.Untold.{IsClear};
 
@@ -84,6 +84,7 @@ impl Marks {
         self.marks.open_to(count)
     }
 
+    #[tactic(auto, using(crate::proofs::Marked::mark_more))]
     pub(crate) fn open_marked_to(&mut self, count: usize) -> Result<(), NoMemory>
         ensures ok { OnOk result (self.new ≡ self.old ++ replicate (count - length self.old) true) }
         ensures err { OnErr result (self.new ≡ self.old) }
@@ -122,6 +123,7 @@ impl Marks {
 
     // Both apart, so that a caller that changes nothing pays for one look at the mark.
     #[inline(never)]
+    #[tactic(auto, using(crate::proofs::Marked::summed_set, crate::proofs::Marked::next_marked, crate::proofs::Marked::unmarked_set))]
     fn turn_on(&mut self, index: usize)
         requires { index < length self.old }
         ensures { self.new ≡ slice_set self.old index true }
@@ -155,6 +157,7 @@ impl Marks {
     }
 
     #[inline(never)]
+    #[tactic(auto, using(crate::proofs::Boths::both_len))]
     pub(crate) fn next_both(&self, others: &Marks, from: usize) -> Option<usize>
         ensures { IsNextMark (both self.now others.now) from result }
     {
@@ -167,6 +170,17 @@ impl Marks {
             others: &others.marks,
         };
         search(from, self.marks.words(), &summary, &row)
+    }
+
+    /// Whether one of those with a mark may not have been told.
+    #[inline(always)]
+    pub(crate) fn may_have_untold(&self, told: &ToldMarks) -> bool
+        ensures { result ≡ false → (others : List Bool) → IsNextMark (untold (both self.now others) told.now) 0 None }
+    {
+        match self.first {
+            Some(_first) => self.last >= told.first(),
+            None => false,
+        }
     }
 
     /// If only these marks count, they are both, so that one search serves all.
@@ -274,14 +288,4 @@ fn next_word<S: Row>(from: usize, words: usize, summary: &S) -> usize
         bit = 0;
     }
     from.max(words)
-}
-
-pub(crate) fn least(a: Option<u64>, b: Option<u64>) -> Option<u64>
-    ensures { result ≡ least_of a b }
-{
-    match (a, b) {
-        (Some(a), Some(b)) => Some(a.min(b)),
-        (Some(a), None) => Some(a),
-        (None, b) => b,
-    }
 }

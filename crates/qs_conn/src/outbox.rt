@@ -191,6 +191,7 @@ impl Outbox {
         self.next
     }
 
+    #[inline(always)]
     pub(crate) fn sent_sum(&self) -> u64
         ensures value { result ≡ sent_sum self.now.sends }
         ensures small { result ≤ MAX_VARINT }
@@ -222,7 +223,7 @@ impl Outbox {
         kept as u64
     }
 
-    #[tactic(auto, using(crate::proofs::Helds::of_lanes))]
+    #[tactic(auto, using(crate::proofs::Tasks::of_lanes))]
     pub(crate) fn held(&self) -> u64
         ensures { IsSumOf (IsSumOf IsBuffer) (lists self.now.sends) result }
     {

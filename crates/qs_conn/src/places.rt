@@ -3,7 +3,6 @@ ghost use Rattle.std.specs.Prelude.{◌≡◌, ◌+◌, ◌-◌, ◌/◌, ◌≤
 ghost use Rattle.qs_machine.specs.Tables.{type_of, index_of};
 ghost use Rattle.qs_conn.specs.Marks.{least_of};
 
-use crate::marks::least;
 use qs_wire::StreamId;
 use std::marker::Model;
 
@@ -29,6 +28,7 @@ impl Model for Place {
 }
 
 impl Place {
+    #[inline(always)]
     pub(crate) fn of(stream: StreamId) -> Place
         ensures { result ≡ stream }
     {
@@ -41,6 +41,7 @@ impl Place {
     }
 }
 
+#[inline(always)]
 pub(crate) fn type_of(stream: StreamId) -> usize
     ensures value { result ≡ type_of stream }
     ensures small { result < 4 }
@@ -48,6 +49,7 @@ pub(crate) fn type_of(stream: StreamId) -> usize
     (stream.value() % 4) as usize
 }
 
+#[inline(always)]
 pub(crate) fn index_of(stream: StreamId) -> usize
     ensures value { result ≡ index_of stream }
     ensures small { result < 2 ^ 60 }
@@ -63,14 +65,14 @@ pub(crate) fn index_from(stream_type: usize, from: u64) -> usize
     ((from + 3 - stream_type as u64) / 4) as usize
 }
 
-pub(crate) fn lesser(a: Option<StreamId>, b: Option<StreamId>) -> Option<StreamId>
+/// `None` is as a number past all streams.
+#[inline(always)]
+pub(crate) fn lesser(a: Option<u64>, b: Option<u64>) -> Option<StreamId>
+    requires a { IfSome a (λ n. n < 2 ^ 62) }
+    requires b { IfSome b (λ n. n < 2 ^ 62) }
     ensures { result ≡ least_of a b }
 {
-    match (a, b) {
-        (Some(first), Some(second)) if second.value() < first.value() => b,
-        (Some(_first), _) => a,
-        (None, _) => b,
-    }
+    StreamId::new(a.unwrap_or(u64::MAX).min(b.unwrap_or(u64::MAX)))
 }
 
 /// One for each type, since tables are by type and a search goes by number.
@@ -87,10 +89,8 @@ pub(crate) fn least_stream(
     requires d { IfSome d (λ n. n < 2 ^ 62) }
     ensures { result ≡ least_of (least_of a b) (least_of c d) }
 {
-    let bidi = least(a, b);
-    let uni = least(c, d);
-    match least(bidi, uni) {
-        Some(number) => StreamId::new(number),
-        None => None,
-    }
+    // None as a number past all streams': so three minima are all.
+    let bidi = a.unwrap_or(u64::MAX).min(b.unwrap_or(u64::MAX));
+    let uni = c.unwrap_or(u64::MAX).min(d.unwrap_or(u64::MAX));
+    StreamId::new(bidi.min(uni))
 }

@@ -200,7 +200,7 @@ impl RecvLanes {
 impl Holds for Half {
     ghost IsHeld = { IsRoom };
 
-    #[tactic(auto, using(crate::proofs::Helds::half_least))]
+    #[tactic(auto, using(crate::proofs::Tasks::half_least))]
     fn held(&self) -> u64 {
         RecvHalf::held(self)
     }
@@ -287,7 +287,7 @@ fn raise_touched(
     }
 }
 
-#[tactic(auto, using(crate::proofs::Untolds::has_same, crate::proofs::Untolds::has_marked, crate::proofs::LaneMarks::raised_none, crate::proofs::LaneMarks::raised_some, crate::proofs::LaneEdits::changed_at))]
+#[tactic(auto, using(crate::proofs::Untolds::has_same, crate::proofs::Untolds::has_marked, crate::proofs::LaneEdits::raised_none, crate::proofs::LaneEdits::raised_some, crate::proofs::LaneEdits::changed_at))]
 fn raise_at(
     halves: &mut Vec<Half>,
     index: usize,

@@ -79,6 +79,7 @@ impl RecvTables {
         self.half(Place::of(stream)).is_some()
     }
 
+    #[tactic(auto, using(qs_machine::proofs::TableEdits::lookup_is))]
     pub(crate) fn half(&self, stream: Place) -> Option<&Half>
         ensures found { IfSome result (λ half. lookup self.now stream ≡ Some half.now) }
         ensures none { IfNone result (lookup self.now stream ≡ None) }
@@ -122,6 +123,7 @@ impl RecvTables {
         lanes.len()
     }
 
+    #[tactic(auto, using(qs_machine::proofs::TableEdits::table_is))]
     pub(crate) fn close_to(&mut self, stream: StreamId, count: usize)
         requires { let lanes = table self.old (type_of stream) in tally_on (take count lanes) ≡ tally_on lanes }
         ensures { self.new ≡ with_table self.old (type_of stream) (take count (table self.old (type_of stream))) }
@@ -196,6 +198,7 @@ impl RecvTables {
         })
     }
 
+    #[tactic(auto, using(crate::proofs::Marked::open_within))]
     pub(crate) fn may_tell(&self, stream: StreamId) -> bool
         requires { is_some (lookup self.now stream) ≡ true }
         ensures { result ≡ false → (t : RecvTask) → HasNone t (or_new (lookup self.now stream) 0 Share.Half) }
@@ -259,7 +262,7 @@ impl RecvTables {
         })
     }
 
-    #[tactic(auto, using(crate::proofs::Settling::calm_window))]
+    #[tactic(auto, using(crate::proofs::LaneEdits::calm_window))]
     pub(crate) fn set_window(&mut self, stream: StreamId, window: u64)
         requires open { is_some (lookup self.old stream) ≡ true }
         requires some { 1 ≤ window }
@@ -343,7 +346,7 @@ impl RecvTables {
         }
     }
 
-    #[tactic(auto, using(crate::proofs::Least::kinds_four))]
+    #[tactic(auto, using(crate::proofs::Marked::kinds_four))]
     pub(crate) fn next_with(&self, task: RecvTask, from: u64) -> Option<StreamId>
         requires { from ≤ 2 ^ 62 }
         ensures { IsLeast (IsHeld (HasOne task) self.now) from result }
@@ -370,6 +373,7 @@ impl RecvTables {
     }
 
     #[inline(always)]
+    #[tactic(auto, using(crate::proofs::Marked::kinds_four))]
     pub(crate) fn next_untold(&self, task: RecvTask, told: &ToldStreams) -> Option<StreamId>
         ensures { IsLeast (IsUntold (IsHeld (HasOne task) self.now) told.now) 0 result }
     {
@@ -418,7 +422,7 @@ impl RecvTables {
         )
     }
 
-    #[tactic(auto, using(crate::proofs::Helds::lists_are))]
+    #[tactic(auto, using(crate::proofs::Tasks::lists_are))]
     pub(crate) fn held(&self) -> u64
         ensures { IsSumOf (IsSumOf IsRoom) (lists self.now) result }
     {
@@ -450,6 +454,7 @@ fn sum(a: Tally, b: Tally, c: Tally, d: Tally) -> Tally
     }
 }
 
+#[inline(always)]
 fn wrapping_sum(a: u64, b: u64, c: u64, d: u64) -> u64
     ensures { result ≡ (a + b + c + d) % 2 ^ 64 }
 {

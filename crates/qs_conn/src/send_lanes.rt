@@ -93,7 +93,7 @@ impl SendLanes {
         self.halves.len()
     }
 
-    #[tactic(auto, using(crate::proofs::Promised::promised_of, crate::proofs::Promised::sum_few))]
+    #[tactic(auto, using(crate::proofs::Tasks::promised_of, crate::proofs::Tasks::sum_few))]
     pub(crate) fn promised(&self) -> u128
         ensures value { result ≡ sum_by (λ s. promised_on s.lane) self.now }
         ensures small { result ≤ 2 ^ 122 }
@@ -101,7 +101,7 @@ impl SendLanes {
         self.promised
     }
 
-    #[tactic(auto, using(crate::proofs::Promised::kept_of, crate::proofs::Promised::sum_few))]
+    #[tactic(auto, using(crate::proofs::Tasks::kept_of, crate::proofs::Tasks::sum_few))]
     pub(crate) fn kept(&self) -> u128
         ensures value { result ≡ sum_by (λ s. kept_on s.lane) self.now }
         ensures small { result ≤ 2 ^ 122 }
@@ -193,7 +193,7 @@ impl SendLanes {
         answer
     }
 
-    #[tactic(auto, using(crate::proofs::SendEdits::changed_is, crate::proofs::SendEdits::set_same, crate::proofs::SendEdits::over_refused))]
+    #[tactic(auto, using(crate::proofs::LaneEdits::changed_is, crate::proofs::LaneEdits::set_same, crate::proofs::LaneEdits::over_refused))]
     pub(crate) fn write(&mut self, index: usize, bytes: &[u8]) -> Result<usize, SendFault>
         requires { index < length self.old }
         ensures accepted { let half = slice_index_or self.old index no_sending in
@@ -214,7 +214,7 @@ impl SendLanes {
         )
     }
 
-    #[tactic(auto, using(crate::proofs::SendEdits::changed_is, crate::proofs::SendEdits::over_refused, crate::proofs::SendEdits::over_finish))]
+    #[tactic(auto, using(crate::proofs::LaneEdits::changed_is, crate::proofs::LaneEdits::over_refused, crate::proofs::LaneEdits::over_finish))]
     pub(crate) fn finish(&mut self, index: usize) -> Result<(), SendFault>
         requires { index < length self.old }
         ensures answer { result ≡ answer_of (refusal (slice_index_or self.old index no_sending).lane) }
@@ -228,7 +228,7 @@ impl SendLanes {
         )
     }
 
-    #[tactic(auto, using(crate::proofs::SendEdits::changed_is, crate::proofs::SendEdits::over_reset_refused, crate::proofs::SendEdits::over_reset))]
+    #[tactic(auto, using(crate::proofs::LaneEdits::changed_is, crate::proofs::LaneEdits::over_reset_refused, crate::proofs::LaneEdits::over_reset))]
     pub(crate) fn reset(&mut self, index: usize, code: u64) -> Result<(), SendFault>
         requires there { index < length self.old }
         requires fits { code ≤ MAX_VARINT }
@@ -243,7 +243,7 @@ impl SendLanes {
         )
     }
 
-    #[tactic(auto, using(crate::proofs::SendEdits::changed_is, crate::proofs::SendEdits::over_stop))]
+    #[tactic(auto, using(crate::proofs::LaneEdits::changed_is, crate::proofs::LaneEdits::over_stop))]
     pub(crate) fn stopped(&mut self, index: usize, code: u64, owner_answers: bool)
         requires there { index < length self.old }
         requires fits { code ≤ MAX_VARINT }
@@ -282,7 +282,7 @@ impl SendLanes {
         look_at(&self.halves, &mut self.marks, index);
     }
 
-    #[tactic(auto, using(crate::proofs::SendEdits::changed_is, crate::proofs::SendEdits::over_not_reset))]
+    #[tactic(auto, using(crate::proofs::LaneEdits::changed_is, crate::proofs::LaneEdits::over_not_reset))]
     pub(crate) fn reset_acked(&mut self, index: usize)
         requires there { index < length self.old }
         requires sent { state (slice_index_or self.old index no_sending).lane ≡ SendState.ResetSent }
@@ -291,7 +291,7 @@ impl SendLanes {
         self.edit(index, (), Moves::All, |half| half.reset_acked())
     }
 
-    #[tactic(auto, using(crate::proofs::SendEdits::changed_is, crate::proofs::SendEdits::over_sent))]
+    #[tactic(auto, using(crate::proofs::LaneEdits::changed_is, crate::proofs::LaneEdits::over_sent))]
     pub(crate) fn sent(&mut self, index: usize, chunk: Chunk) -> Sent
         requires there { index < length self.old }
         requires due { IsDueChunk (slice_index_or self.old index no_sending) chunk }
@@ -312,7 +312,7 @@ impl SendLanes {
         }
     }
 
-    #[tactic(auto, using(crate::proofs::SendEdits::changed_is, crate::proofs::SendEdits::set_same, crate::proofs::SendEdits::over_acked))]
+    #[tactic(auto, using(crate::proofs::LaneEdits::changed_is, crate::proofs::LaneEdits::set_same, crate::proofs::LaneEdits::over_acked))]
     pub(crate) fn acked(&mut self, index: usize, chunk: Chunk) -> Result<(), NoMemory>
         requires there { index < length self.old }
         requires sent { WasSent (slice_index_or self.old index no_sending).lane chunk }
@@ -330,7 +330,7 @@ impl SendLanes {
         answer
     }
 
-    #[tactic(auto, using(crate::proofs::SendEdits::changed_is, crate::proofs::SendEdits::set_same, crate::proofs::SendEdits::over_lost))]
+    #[tactic(auto, using(crate::proofs::LaneEdits::changed_is, crate::proofs::LaneEdits::set_same, crate::proofs::LaneEdits::over_lost))]
     pub(crate) fn lost(&mut self, index: usize, chunk: Chunk) -> Result<(), NoMemory>
         requires there { index < length self.old }
         requires sent { WasSent (slice_index_or self.old index no_sending).lane chunk }
@@ -375,7 +375,7 @@ impl SendLanes {
 impl Holds for SendLanes {
     ghost IsHeld = { IsSumOf (λ s. IsBuffer s.lane) };
 
-    #[tactic(auto, using(crate::proofs::Helds::sum_none, crate::proofs::Helds::sum_more))]
+    #[tactic(auto, using(crate::proofs::Tasks::sum_none, crate::proofs::Tasks::sum_more))]
     fn held(&self) -> u64 {
         let mut held: u64 = 0;
         for index in 0..self.halves.len() {

@@ -193,6 +193,7 @@ impl SendMarks {
     }
 
     #[inline(always)]
+    #[tactic(auto, using(crate::proofs::Hearing::none_told, crate::proofs::Hearing::asked_untold, crate::proofs::Hearing::asked_told))]
     pub(crate) fn next_sought(&self, search: Search, told: &ToldMarks, from: usize) -> Option<usize>
         ensures { IsNextMark (sought_of search (marks_of self.now search.task) told.now) from result }
     {

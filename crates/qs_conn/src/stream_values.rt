@@ -48,6 +48,7 @@ impl StreamValues {
         Ok(())
     }
 
+    #[tactic(auto, using(crate::proofs::ToldLaws::value_at))]
     pub(crate) fn is_greatest(&self, stream: StreamId, value: u64) -> bool
         ensures { IsTrue result ↔ (fmap.get self.now stream ≡ Some value) }
     {

@@ -69,6 +69,7 @@ impl ToldMarks {
         self.marks.open_to(count)
     }
 
+    #[tactic(auto, using(crate::proofs::Marked::full_here, crate::proofs::Marked::below_more, crate::proofs::Marked::below_next))]
     pub(crate) fn set(&mut self, index: usize, is_marked: bool)
         requires { index < length self.old }
         ensures { self.new ≡ slice_set self.old index is_marked }
@@ -95,7 +96,7 @@ impl ToldMarks {
     }
 
     /// Room up to it: memory is taken only past the last.
-    #[tactic(auto, using(crate::proofs::ToldTables::marked_beside))]
+    #[tactic(auto, using(crate::proofs::Marked::marked_beside))]
     pub(crate) fn tell(&mut self, index: usize) -> Result<(), NoMemory>
         requires { index < 2 ^ 60 }
         ensures ok { OnOk result (IsMarkedBeside index self.old self.new) }
@@ -134,7 +135,7 @@ impl ToldMarks {
     }
 
     /// An index below which each was told.
-    #[tactic(auto, using(crate::proofs::Fulls::below_here))]
+    #[tactic(auto, using(crate::proofs::Marked::below_here))]
     pub(crate) fn first(&self) -> usize
         ensures { AreMarkedBelow self.now result }
     {

@@ -47,7 +47,7 @@ impl ToldStreams {
         }
     }
 
-    #[tactic(auto, using(crate::proofs::ToldTables::told_read))]
+    #[tactic(auto, using(crate::proofs::Marked::told_read))]
     pub(crate) fn has(&self, stream: StreamId) -> bool
         ensures { result ≡ is_told self.now stream }
     {
@@ -56,6 +56,7 @@ impl ToldStreams {
     }
 
     /// Memory only for the highest stream of its type so far.
+    #[tactic(auto, using(qs_machine::proofs::TableEdits::lookup_is, qs_machine::proofs::TableEdits::on_ok, crate::proofs::Outboxes::on_error, crate::proofs::Marked::told_beside))]
     pub(crate) fn tell(&mut self, stream: StreamId) -> Result<(), NoMemory>
         ensures ok { OnOk result (IsToldBeside stream self.old self.new) }
         ensures err { OnErr result (self.new ≡ self.old) }
@@ -65,6 +66,7 @@ impl ToldStreams {
         marks.tell(index_of(stream))
     }
 
+    #[tactic(auto, using(qs_machine::proofs::TableEdits::updated_is))]
     pub(crate) fn forget(&mut self, stream: StreamId)
         ensures { IsForgotten stream self.old self.new }
     {

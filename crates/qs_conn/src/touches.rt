@@ -48,6 +48,7 @@ impl Touches {
         self.marks.close_to(count);
     }
 
+    #[inline(always)]
     pub(crate) fn is_none(&self) -> bool
         ensures { result ≡ true → (i : ℕ) → is_touched self.now i ≡ false }
     {

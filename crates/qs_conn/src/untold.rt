@@ -134,7 +134,7 @@ impl Untold {
         lanes.set(index_of(stream), is_marked);
     }
 
-    #[tactic(auto, using(crate::proofs::ToldTables::told_read))]
+    #[tactic(auto, using(crate::proofs::Marked::told_read))]
     pub(crate) fn has(&self, stream: StreamId) -> bool
         ensures { result ≡ is_told self.now stream }
     {

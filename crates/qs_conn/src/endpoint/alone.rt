@@ -37,7 +37,7 @@ impl Endpoint {
     /// ```text
     /// match end.take_frame(&frame)? { Taken::Took => {} Taken::Unchanged => idle += 1, Taken::NotOurs => stack.take(&frame)? }
     /// ```
-    #[tactic(auto, using(crate::proofs::Alones::said_again, crate::proofs::Alones::passed_by, crate::proofs::Alones::is_taken))]
+    #[tactic(auto, using(crate::proofs::Asked::said_again, crate::proofs::Asked::passed_by, crate::proofs::Asked::is_taken))]
     pub fn take_frame(&mut self, frame: &Frame<'_>) -> Result<Taken, TakeFault>
         ensures { TakeFrameStep self.old (view frame.now) result self.new }
     {
@@ -58,7 +58,7 @@ impl Endpoint {
     /// ```text
     /// end.take_stream_frame(stream, offset, bytes, fin)?;
     /// ```
-    #[tactic(auto, using(crate::proofs::Alones::said_again, crate::proofs::Alones::is_taken))]
+    #[tactic(auto, using(crate::proofs::Asked::said_again, crate::proofs::Asked::is_taken))]
     pub fn take_stream_frame(
         &mut self,
         stream: StreamId,
@@ -92,7 +92,7 @@ impl Endpoint {
     /// ```text
     /// end.take_frames(&frames)?;
     /// ```
-    #[tactic(auto, using(crate::proofs::Alones::all_said_again, crate::proofs::Alones::are_taken))]
+    #[tactic(auto, using(crate::proofs::Asked::all_said_again, crate::proofs::Asked::are_taken))]
     pub fn take_frames(&mut self, frames: &[Frame<'_>]) -> Result<Taken, TakeFault>
         ensures { TakeFramesStep self.old (map view frames.now) result self.new }
     {
@@ -116,7 +116,7 @@ impl Endpoint {
         Ok(taken)
     }
 
-    #[tactic(auto, using(crate::proofs::Refusals::code_fits, crate::proofs::Alones::took_some, crate::proofs::Alones::took_none))]
+    #[tactic(auto, using(crate::proofs::Asked::code_fits, crate::proofs::Asked::took_some, crate::proofs::Asked::took_none))]
     #[inline(always)]
     fn take_one(&mut self, frame: &Frame<'_>) -> Result<Taken, TakeFault>
         requires { is_ours (seen (view frame.now)) ≡ true }

@@ -58,7 +58,7 @@ impl Endpoint {
     /// missing.
     ///
     /// Refused as `read` is.
-    #[tactic(auto, using(crate::proofs::OwnerSteps::peek_refused, crate::proofs::OwnerSteps::receiver_open))]
+    #[tactic(auto, using(crate::proofs::Hearing::peek_refused, crate::proofs::Hearing::receiver_open))]
     pub fn peek(&self, stream: StreamId) -> Result<Peek<'_>, UseFault>
         ensures { IsPeeked self.now stream result }
     {
@@ -129,7 +129,7 @@ impl Endpoint {
     /// How many bytes `write` accepts of a stream now, however many are offered: 0 if it would be refused, or if the stream has no sending
     /// half here (RFC 9000, sections 2.2 and 2.4). Credit doesn't count, since bytes beyond it wait, unless writes keep within credit
     /// ([`Tuning::within_credit`], section 4.1); what all streams keep counts if that is bounded ([`Tuning::send_window`]). Constant time.
-    #[tactic(auto, using(crate::proofs::Within::room_left, crate::proofs::Within::room_free))]
+    #[tactic(auto, using(crate::proofs::Hearing::room_left, crate::proofs::Hearing::room_free))]
     pub fn room(&self, stream: StreamId) -> u64
         ensures { result ≡ room self.now stream }
     {
@@ -155,7 +155,7 @@ impl Endpoint {
     }
 
     // None without a bound, so that the usual endpoint compares nothing.
-    #[tactic(auto, using(crate::proofs::Within::left_of))]
+    #[tactic(auto, using(crate::proofs::Hearing::left_of))]
     pub(super) fn window_left(&self) -> Option<u64>
         ensures { result ≡ window_left self.now }
     {

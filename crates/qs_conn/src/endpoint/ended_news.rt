@@ -6,7 +6,7 @@ ghost use Rattle.qs_conn.specs.Marks.{IsBefore, IsUntold, IsUntoldOf, is_marked,
 
 use super::{Endpoint, is_uni, role_bit};
 use crate::marks::Marks;
-use crate::places::{index_from, lesser};
+use crate::places::{index_from, least_stream};
 use crate::recv_marks::RecvTask;
 use crate::told_streams::ToldStreams;
 use qs_wire::StreamId;
@@ -16,7 +16,7 @@ impl Endpoint {
     /// acknowledged, or the reset (RFC 9000, section 3). `None` if there is none.
     ///
     /// It takes no memory, and looks at one word of marks of each half for 64 streams of a type.
-    #[tactic(auto, using(crate::proofs::ToldSearch::untold_of_none))]
+    #[tactic(auto, using(crate::proofs::Marked::untold_of_none))]
     pub fn next_ended(&self, from: StreamId) -> Option<StreamId>
         ensures { IsLeast (IsEnded self.now) from result }
     {
@@ -30,32 +30,30 @@ impl Endpoint {
         requires { from ≤ 2 ^ 62 }
         ensures { IsLeast (IsUntold (IsEnded self.now) told.now) from result }
     {
-        let bidi = lesser(
+        least_stream(
             self.next_ended_of(0, told, from),
             self.next_ended_of(1, told, from),
-        );
-        let uni = lesser(
             self.next_ended_of(2, told, from),
             self.next_ended_of(3, told, from),
-        );
-        lesser(bidi, uni)
+        )
     }
 
     // Apart, so that a caller pays for one look at the counts if no stream is over.
     #[inline(always)]
-    fn next_ended_of(&self, stream_type: usize, told: &ToldStreams, from: u64) -> Option<StreamId>
+    fn next_ended_of(&self, stream_type: usize, told: &ToldStreams, from: u64) -> Option<u64>
         requires stream_type { stream_type < 4 }
         requires from { from ≤ 2 ^ 62 }
-        ensures { IsLeast (IsUntoldOf (IsEnded self.now) told.now stream_type) from result }
+        ensures least { IsLeast (IsUntoldOf (IsEnded self.now) told.now stream_type) from result }
+        ensures small { IfSome result (λ n. n < 2 ^ 62) }
     {
         let (marks, _others) = self.ended_marks(stream_type);
-        if !marks.may_have() {
+        if !marks.may_have_untold(told.of_type(stream_type)) {
             return None;
         }
         let mut next = from;
         while let Some(stream) = self.next_ended_marked(stream_type, told, next) {
             if self.has_ended(stream) {
-                return Some(stream);
+                return Some(stream.value());
             }
             next = stream.value() + 1;
         }
@@ -99,6 +97,7 @@ impl Endpoint {
         }
     }
 
+    #[tactic(auto, using(crate::proofs::Hearing::bidi_over, crate::proofs::Hearing::own_over, crate::proofs::Hearing::peers_over))]
     fn has_ended(&self, stream: StreamId) -> bool
         ensures is { result ≡ true → IsEnded self.now stream }
         ensures not { result ≡ false → IsEnded self.now stream → ⊥ }

@@ -1,5 +1,5 @@
 //! What of an endpoint is an event for its application. It is searched as things are, so no queue can fill up.
-ghost use Rattle.std.specs.Prelude.{◌≡◌, ◌<◌, ◌≤◌, ◌↔◌, IsTrue, true, false, is_some, ℕ, None, Some};
+ghost use Rattle.std.specs.Prelude.{◌≡◌, ◌<◌, ◌≤◌, ◌↔◌, IsTrue, true, false, is_some, ℕ, None, Some, IfSome, ◌^◌};
 ghost use Rattle.qs_send.specs.Lane.{SendLane};
 ghost use Rattle.qs_machine.specs.Tables.{lookup};
 ghost use Rattle.qs_machine.specs.Asking.{all_unsent, credit_left, room, stopped_with};
@@ -29,14 +29,15 @@ impl Endpoint {
         lesser(bidi, self.next_opened_of(Dir::Uni, heard.uni))
     }
 
-    fn next_opened_of(&self, dir: Dir, heard: u64) -> Option<StreamId>
-        ensures { result ≡ next_of_peer self.now dir heard }
+    fn next_opened_of(&self, dir: Dir, heard: u64) -> Option<u64>
+        ensures value { result ≡ next_of_peer self.now dir heard }
+        ensures small { IfSome result (λ n. n < 2 ^ 62) }
     {
         let stream_type = self.peer_type(dir);
         if heard >= self.opened_count(stream_type) as u64 {
             return None;
         }
-        StreamId::new(heard * 4 + stream_type as u64)
+        Some(heard * 4 + stream_type as u64)
     }
 
     pub(crate) fn next_readable_untold(&self, told: &ToldStreams) -> Option<StreamId>

@@ -11,7 +11,7 @@ impl Endpoint {
     ///
     /// Refused: `Closed`; `NotOutstanding` if no such packet is outstanding; and `NoMemory`. Then the first pieces of the packet may be
     /// lost already; the others are still outstanding, and the call may be made again.
-    #[tactic(auto, using(crate::proofs::Runs::lost_refused))]
+    #[tactic(auto, using(crate::proofs::AckRuns::lost_refused))]
     pub fn declare_lost(&mut self, number: u64) -> Result<(), LostFault>
         ensures { LoseStep self.old number result self.new }
     {
@@ -25,7 +25,7 @@ impl Endpoint {
         }
     }
 
-    #[tactic(auto, using(crate::proofs::Runs::not_outstanding, crate::proofs::Runs::is_outstanding))]
+    #[tactic(auto, using(crate::proofs::AckRuns::not_outstanding, crate::proofs::AckRuns::is_outstanding))]
     fn lose_refusal(&self, number: u64) -> Option<LostFault>
         ensures { result ≡ lose_refusal self.now number }
     {

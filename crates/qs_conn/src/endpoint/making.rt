@@ -101,6 +101,7 @@ impl Endpoint {
     }
 
     // Room is taken before it is known whether anything goes: if nothing does, memory wasn't needed.
+    #[tactic(auto, using(std::proofs::lemmas::Bool::both_ways))]
     fn without_memory(&self) -> Result<Option<Made>, MakeFault>
         ensures by { (first delay room : ℕ) → MakeBy self.now first delay room result [] self.now }
         ensures order { (old new : End) → NothingStarves old result new }

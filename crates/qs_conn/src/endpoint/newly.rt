@@ -15,7 +15,7 @@ impl Endpoint {
     ///
     /// It takes no memory. Each answer reads the payload once, its frames and the ranges of its ACKs, and once more for each gap between
     /// the ranges that it passes.
-    #[tactic(auto, using(crate::proofs::Named::none_below, crate::proofs::Named::none_outstanding, crate::proofs::Named::none_named, crate::proofs::Named::goes_on, crate::proofs::Named::is_newly))]
+    #[tactic(auto, using(crate::proofs::Asked::none_below, crate::proofs::Asked::none_outstanding, crate::proofs::Asked::none_named, crate::proofs::Asked::goes_on, crate::proofs::Asked::is_newly))]
     pub fn next_newly_acked(&self, payload: &[u8], from: u64) -> Option<u64>
         ensures { IsLeast (IsNewlyAcked self.now payload.now) from result }
     {

@@ -11,7 +11,7 @@ impl Endpoint {
     /// a closed endpoint whose tuning hasn't `reads_when_closed`.
     ///
     /// It takes no memory, and looks at one word of marks for 64 streams of a type, so that a search over many idle streams costs little.
-    #[tactic(auto, using(crate::proofs::Sought::readable_least))]
+    #[tactic(auto, using(crate::proofs::Hearing::readable_least))]
     pub fn next_readable(&self, from: StreamId) -> Option<StreamId>
         ensures { IsLeast (IsReadable self.now) from result }
     {
@@ -40,7 +40,7 @@ impl Endpoint {
     /// such a stream has some.
     ///
     /// It takes no memory, and looks at one word of marks for 64 streams of a type.
-    #[tactic(auto, using(crate::proofs::Sought::writable_least))]
+    #[tactic(auto, using(crate::proofs::Hearing::writable_least))]
     pub fn next_writable(&self, from: StreamId) -> Option<StreamId>
         ensures { IsLeast (IsWritable self.now) from result }
     {

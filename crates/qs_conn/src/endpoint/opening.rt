@@ -107,7 +107,7 @@ impl Endpoint {
         self.open_stream(stream)
     }
 
-    #[tactic(auto, using(crate::proofs::Openings::own_stays, crate::proofs::Openings::open_stays, crate::proofs::Openings::none_in, crate::proofs::Openings::none_out))]
+    #[tactic(auto, using(crate::proofs::Outboxes::own_stays, crate::proofs::Outboxes::open_stays, crate::proofs::Outboxes::none_in, crate::proofs::Outboxes::none_out))]
     fn is_open_here(&self, stream: StreamId) -> bool
         ensures yes { result ≡ true → opened_by_peer stream self.now ≡ self.now }
         ensures no { result ≡ false → IsYetToOpen self.now stream }
@@ -121,7 +121,7 @@ impl Endpoint {
         is_uni(stream) || self.core.outbox.is_open(stream)
     }
 
-    #[tactic(auto, using(crate::proofs::Runs::idle_with))]
+    #[tactic(auto, using(crate::proofs::AckRuns::idle_with))]
     fn open_stream(&mut self, stream: StreamId) -> Result<(), NoMemory>
         ensures ok { OnOk result (self.new ≡ opens stream self.old) }
         ensures err { OnErr result (self.new ≡ self.old) }

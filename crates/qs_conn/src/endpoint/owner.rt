@@ -26,7 +26,7 @@ impl Endpoint {
     ///
     /// Refused, and then unchanged: `Closed`; `NoSuchStream` or `WrongDirection` if the stream has no sending half; `WasReset`; `Finished`;
     /// and `NoMemory`.
-    #[tactic(auto, using(crate::proofs::Within::write_within, crate::proofs::Runs::idle_with))]
+    #[tactic(auto, using(crate::proofs::Hearing::write_within, crate::proofs::AckRuns::idle_with))]
     pub fn write(&mut self, stream: StreamId, bytes: &[u8]) -> Result<usize, UseFault>
         ensures { WriteStep self.old stream bytes.now result self.new }
     {
@@ -50,7 +50,7 @@ impl Endpoint {
     }
 
     // Cut before the half sees them, so that a half knows no credit but its own.
-    #[tactic(auto, using(crate::proofs::Within::front_none, crate::proofs::Within::front_some))]
+    #[tactic(auto, using(crate::proofs::Hearing::front_none, crate::proofs::Hearing::front_some))]
     fn offered<'a>(&self, stream: StreamId, bytes: &'a [u8]) -> &'a [u8]
         ensures { result.now ≡ offered self.now (or_none (send_lane self.now stream)) bytes.now }
     {
@@ -62,7 +62,7 @@ impl Endpoint {
     }
 
     // What waits on other streams uses up credit first.
-    #[tactic(auto, using(crate::proofs::Within::let_go_all, crate::proofs::Within::let_go_cut))]
+    #[tactic(auto, using(crate::proofs::Hearing::let_go_all, crate::proofs::Hearing::let_go_cut))]
     fn let_go<'a>(&self, stream: StreamId, bytes: &'a [u8]) -> &'a [u8]
         ensures { result.now ≡ let_go self.now (or_none (send_lane self.now stream)) bytes.now }
     {
@@ -75,7 +75,7 @@ impl Endpoint {
     /// Ends the stream after the bytes written so far.
     ///
     /// Refused as `write` is, but never for want of memory.
-    #[tactic(auto, using(crate::proofs::Runs::idle_with))]
+    #[tactic(auto, using(crate::proofs::AckRuns::idle_with))]
     pub fn finish(&mut self, stream: StreamId) -> Result<(), UseFault>
         ensures { FinishStep self.old stream result self.new }
     {
@@ -95,7 +95,7 @@ impl Endpoint {
     /// Resets the stream's sending half with the application's code, below 2^62 (RFC 9000, sections 3.1 and 20.2).
     ///
     /// Refused, and then unchanged: as `write` is; `Finished` only once all was acknowledged.
-    #[tactic(auto, using(crate::proofs::Runs::idle_with))]
+    #[tactic(auto, using(crate::proofs::AckRuns::idle_with))]
     pub fn reset(&mut self, stream: StreamId, code: u64) -> Result<(), UseFault>
         requires { code < 2 ^ 62 }
         ensures { ResetStep self.old stream code result self.new }
@@ -117,7 +117,7 @@ impl Endpoint {
     ///
     /// Refused, and then unchanged: `Closed`, unless the tuning has `reads_when_closed`: then what came before is read on; `NoSuchStream`
     /// or `WrongDirection` if the stream has no receiving half.
-    #[tactic(auto, using(crate::proofs::OwnerSteps::read_ok, crate::proofs::OwnerSteps::read_none))]
+    #[tactic(auto, using(crate::proofs::Hearing::read_ok, crate::proofs::Hearing::read_none))]
     pub fn read(&mut self, stream: StreamId, into: &mut [u8]) -> Result<Read, UseFault>
         ensures { (bytes : List ℕ) × (into.new ≡ bytes ++ drop (length bytes) into.old) × ReadStep self.old stream (length into.old) result bytes self.new }
     {
@@ -148,7 +148,7 @@ impl Endpoint {
     /// ```text
     /// let consumed = end.consume(stream, 100)?;
     /// ```
-    #[tactic(auto, using(crate::proofs::OwnerSteps::consume_ok, crate::proofs::OwnerSteps::consume_refused, crate::proofs::OwnerSteps::receiver_open, crate::proofs::OwnerSteps::receiver_open_still))]
+    #[tactic(auto, using(crate::proofs::Hearing::consume_ok, crate::proofs::Hearing::consume_refused, crate::proofs::Hearing::receiver_open, crate::proofs::Hearing::receiver_open_still))]
     pub fn consume(&mut self, stream: StreamId, most: usize) -> Result<Consumed, UseFault>
         ensures { ConsumeStep self.old stream most result self.new }
     {
@@ -182,7 +182,7 @@ impl Endpoint {
     /// codes lie below 2^62.
     ///
     /// Refused, and then unchanged: `Closed`; `NoSuchStream` or `WrongDirection` if the stream has no receiving half.
-    #[tactic(auto, using(crate::proofs::OwnerSteps::stop_ok))]
+    #[tactic(auto, using(crate::proofs::Hearing::stop_ok))]
     pub fn stop(&mut self, stream: StreamId, code: u64) -> Result<(), UseFault>
         requires { code < 2 ^ 62 }
         ensures { StopStep self.old stream code result self.new }
@@ -206,7 +206,7 @@ impl Endpoint {
     /// ```text
     /// end.stop_and_discard(stream, 7)?;
     /// ```
-    #[tactic(auto, using(crate::proofs::OwnerSteps::forget_ok))]
+    #[tactic(auto, using(crate::proofs::Hearing::forget_ok))]
     pub fn stop_and_discard(&mut self, stream: StreamId, code: u64) -> Result<(), UseFault>
         requires { code < 2 ^ 62 }
         ensures { StopAndDiscardStep self.old stream code result self.new }
@@ -316,7 +316,7 @@ fn use_fault(fault: SendFault) -> UseFault
     }
 }
 
-#[tactic(auto, using(crate::proofs::Within::front_whole))]
+#[tactic(auto, using(crate::proofs::Hearing::front_whole))]
 fn front(bytes: &[u8], most: u64) -> &[u8]
     ensures { result.now ≡ take most bytes.now }
 {

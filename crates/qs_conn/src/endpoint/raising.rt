@@ -76,7 +76,7 @@ impl Endpoint {
         }
     }
 
-    #[tactic(auto, using(crate::proofs::Runs::idle_with))]
+    #[tactic(auto, using(crate::proofs::AckRuns::idle_with, crate::proofs::Cores::kept_streams))]
     fn allow_to(&mut self, stream: StreamId, limit: u64)
         requires open { is_some (lookup self.old.sends stream) ≡ true }
         requires limit { limit ≤ MAX_VARINT }

@@ -55,7 +55,7 @@ impl Endpoint {
     /// section 7).
     ///
     /// After `NoMemory` none was named that is still outstanding: the same payload may come again, and names the others.
-    #[tactic(auto, using(crate::proofs::Asked::is_received, crate::proofs::TurnsTold::nothing_told))]
+    #[tactic(auto, using(crate::proofs::Asked::is_received, crate::proofs::Asked::nothing_told))]
     pub fn receive_with_acks<T: Told>(
         &mut self,
         number: u64,
@@ -122,7 +122,7 @@ impl Endpoint {
         self.core.outbox.learn_none_empty();
     }
 
-    #[tactic(auto, using(crate::proofs::Refusals::code_fits, crate::proofs::Refusals::runs_out))]
+    #[tactic(auto, using(crate::proofs::Asked::code_fits, crate::proofs::Asked::runs_out))]
     #[inline(always)]
     fn take_placed<T: Told>(&mut self, placed: &Placed<'_>, told: &mut T) -> Progress
         requires fits { Fits (view placed.now.frame) }

@@ -14,6 +14,7 @@ impl Endpoint {
     // Only once all frames took effect: a number that is kept is acknowledged, and its payload never processed again (RFC 9000, section
     // 13.2.3).
     #[inline(always)]
+    #[tactic(auto, using(qs_machine::proofs::RunLaws::insert_is_range, crate::proofs::Stages::few_recorded))]
     pub(super) fn record(&mut self, number: u64, asks: bool) -> Result<(), NoMemory>
         requires { number < 2 ^ 62 }
         ensures ok { OnOk result (self.new ≡ recorded number asks self.old) }

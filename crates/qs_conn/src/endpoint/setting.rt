@@ -52,7 +52,7 @@ impl Endpoint {
     /// accept none until enough of them are acknowledged. Of a half that was finished or reset it changes the number alone.
     ///
     /// Refused, and then unchanged: `Closed`; `OutOfRange`; `NoSuchStream` or `WrongDirection` if the stream has no sending half.
-    #[tactic(auto, using(crate::proofs::Runs::idle_with))]
+    #[tactic(auto, using(crate::proofs::AckRuns::idle_with))]
     pub fn set_send_buffer(&mut self, stream: StreamId, size: usize) -> Result<(), SetFault>
         ensures { SetStep self.old (SendBuffer stream size) result self.new }
     {
@@ -77,6 +77,7 @@ impl Endpoint {
     ///
     /// Refused, and then unchanged: `Closed`; `OutOfRange` below 1 and above 2^30; `NoSuchStream` or `WrongDirection` if the stream has no
     /// receiving half.
+    #[tactic(auto, using(crate::proofs::Cores::kept_moved))]
     pub fn set_stream_window(&mut self, stream: StreamId, size: u64) -> Result<(), SetFault>
         ensures { SetStep self.old (StreamWindow stream size) result self.new }
     {

@@ -100,7 +100,7 @@ impl Endpoint {
         known.set(dir, known.of(dir).max(count));
     }
 
-    #[tactic(auto, using(crate::proofs::Runs::idle_with))]
+    #[tactic(auto, using(crate::proofs::AckRuns::idle_with))]
     fn on_max_stream_data(&mut self, stream: StreamId, maximum: u64) -> Result<(), NoMemory>
         requires limit { maximum ≤ MAX_VARINT }
         requires passed { state_fault_out self.old stream ≡ None }
@@ -114,7 +114,7 @@ impl Endpoint {
     }
 
     // Either the half is reset at once, which no application can forget, or the application chose to answer.
-    #[tactic(auto, using(crate::proofs::Runs::idle_with))]
+    #[tactic(auto, using(crate::proofs::AckRuns::idle_with))]
     fn on_stop_sending(&mut self, stream: StreamId, code: u64) -> Result<(), NoMemory>
         requires fits { code ≤ MAX_VARINT }
         requires passed { state_fault_out self.old stream ≡ None }

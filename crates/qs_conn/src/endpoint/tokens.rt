@@ -29,7 +29,7 @@ impl Endpoint {
     /// ```text
     /// for token in acknowledged { end.acked(token)?; }
     /// ```
-    #[tactic(auto, using(crate::proofs::Alones::acked_refused, crate::proofs::Alones::acked_all, crate::proofs::Alones::acked_some))]
+    #[tactic(auto, using(crate::proofs::Asked::acked_refused, crate::proofs::Asked::acked_all, crate::proofs::Asked::acked_some))]
     pub fn acked(&mut self, token: Token) -> Result<(), TokenFault>
         ensures { TokenAckedStep self.old token result self.new }
     {
@@ -50,7 +50,7 @@ impl Endpoint {
     ///
     /// Refused: `Closed`; `NotGiven` if not all of its packets were made yet, or the token is of another epoch; and `NoMemory`. Then some
     /// pieces may be lost already, and the call may be made again.
-    #[tactic(auto, using(crate::proofs::Alones::lost_refused, crate::proofs::Alones::lost_told))]
+    #[tactic(auto, using(crate::proofs::Asked::lost_refused, crate::proofs::Asked::lost_told))]
     pub fn lost(&mut self, token: Token) -> Result<(), TokenFault>
         ensures { TokenLostStep self.old token result self.new }
     {
@@ -61,7 +61,7 @@ impl Endpoint {
     }
 
     // From the highest down, as an ACK goes, so that after a refusal the rest is the lower part.
-    #[tactic(auto, using(crate::proofs::Alones::each_end, crate::proofs::Alones::each_more, crate::proofs::Alones::each_stop))]
+    #[tactic(auto, using(crate::proofs::Asked::each_end, crate::proofs::Asked::each_more, crate::proofs::Asked::each_stop))]
     fn lose_each(&mut self, first: u64, end: u64) -> Result<(), TokenFault>
         ensures { LosesEach (end - first) first self.old result self.new }
     {
@@ -73,7 +73,7 @@ impl Endpoint {
         Ok(())
     }
 
-    #[tactic(auto, using(crate::proofs::Alones::one_lost))]
+    #[tactic(auto, using(crate::proofs::Asked::one_lost))]
     fn lose_one(&mut self, number: u64) -> Result<(), TokenFault>
         ensures { LosesOne number self.old result self.new }
     {

@@ -40,6 +40,9 @@ impl Core {
         ensures told { TellsNamed T.tells (ack_ranges_of largest (numbers_of ranges.now)) self.old.outbox self.new.outbox told.old told.new }
     {
         self.ack_all(false, AckRanges::new(largest, ranges), told)?;
+        if !self.outbox.keeps_lost() {
+            return Ok(());
+        }
         self.ack_all(true, AckRanges::new(largest, ranges), &mut Silent)
     }
 
@@ -55,7 +58,7 @@ impl Core {
         result
     }
 
-    #[tactic(auto, using(crate::proofs::AckRuns::both_stops, crate::proofs::AckRuns::both_done))]
+    #[tactic(auto, using(crate::proofs::AckRuns::both_stops, crate::proofs::AckRuns::both_done, crate::proofs::AckRuns::none_late))]
     fn ack_both(&mut self, first: u64, end: u64) -> Result<(), NoMemory>
         requires rest { IsAtRest self.old }
         ensures rest { IsAtRest self.new }
@@ -84,7 +87,7 @@ impl Core {
         Ok(())
     }
 
-    #[tactic(auto, using(crate::proofs::AckRuns::all_named, crate::proofs::NewlyTold::told_named))]
+    #[tactic(auto, using(crate::proofs::AckRuns::all_named, crate::proofs::AckRuns::told_named))]
     fn ack_all<T: Told>(
         &mut self,
         late: bool,
@@ -216,6 +219,7 @@ impl Core {
     }
 }
 
+#[tactic(auto, using(crate::proofs::AckRuns::down_next))]
 fn tell_down<T: Told>(told: &mut T, number: u64, first: u64)
     requires { first ≤ number }
     ensures { FoldsTo T.tells told.old (numbers_down first (number - first)) told.new }

@@ -68,7 +68,7 @@ impl Core {
     }
 
     /// A raised limit makes any STREAM_DATA_BLOCKED in flight obsolete: nothing outstanding says that the stream stands at the new one.
-    #[tactic(auto, using(crate::proofs::Runs::idle_with))]
+    #[tactic(auto, using(crate::proofs::AckRuns::idle_with))]
     pub(crate) fn allow(&mut self, stream: StreamId, limit: u64)
         requires rest { IsAtRest self.old }
         requires open { is_some (lookup self.old.outbox.sends stream) ≡ true }

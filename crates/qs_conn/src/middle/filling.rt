@@ -349,6 +349,7 @@ impl Core {
 
 // Unless the chunk itself showed that no limit holds the stream back.
 #[inline(always)]
+#[tactic(auto, using(crate::proofs::Untolds::has_same))]
 fn look_unless_free(marks: &mut Untold, outbox: &Outbox, stream: StreamId, is_free: bool)
     requires { is_free ≡ true → (m : ℕ) → IsBlockedAt (lookup outbox.now.sends stream) m → ⊥ }
     ensures more { HasMore marks.old marks.new }

@@ -21,7 +21,7 @@ impl Core {
     }
 
     // One by one, so that after a refusal each piece is either lost or outstanding.
-    #[tactic(auto, using(crate::proofs::Runs::loses_end, crate::proofs::Runs::loses_less))]
+    #[tactic(auto, using(crate::proofs::AckRuns::loses_end, crate::proofs::AckRuns::loses_less))]
     fn lose_pieces(&mut self, number: u64) -> Result<(), NoMemory>
         requires rest { IsAtRest self.old }
         ensures rest { IsAtRest self.new }

@@ -11,6 +11,7 @@ use qs_calls::Fill;
 use qs_wire::{Dir, StreamId};
 
 impl Core {
+    #[tactic(auto, using(crate::proofs::MadePackets::tells_yes))]
     pub(crate) fn has_frame(&self) -> bool
         requires { IsCore self.now }
         ensures { (e : End) → TellsFrame result (end_of self.now e) }
@@ -82,6 +83,7 @@ impl Core {
 
     // Mostly a look at how many marks there are shows that none is due.
     #[inline(always)]
+    #[tactic(auto, using(crate::proofs::Stages::adds_none, crate::proofs::MadePackets::tells_more))]
     fn has_kind(&self, kind: Kind, is_found: bool) -> bool
         requires { IsCore self.now }
         ensures { (e : End) (passed : Passed) → TellsDue is_found (end_of self.now e) passed → TellsDue result (end_of self.now e) (and_kind passed kind) }

@@ -30,7 +30,7 @@ pub(crate) struct KeptPacket {
 
 impl Outbox {
     /// Each outstanding packet has a piece. It does nothing: a caller learns the clause.
-    #[tactic(auto, using(crate::proofs::OutboxAcks::idle_out))]
+    #[tactic(auto, using(crate::proofs::Outboxes::idle_out))]
     pub(crate) fn learn_none_empty(&self)
         requires { IsIdle self.now }
         ensures { NoneEmpty self.now.outstanding }
@@ -39,6 +39,7 @@ impl Outbox {
         self.records.learn_none_empty();
     }
 
+    #[tactic(auto, using(crate::proofs::Outboxes::idle_out))]
     pub(crate) fn next_outstanding(&self, from: u64) -> Option<u64>
         requires { IsIdle self.now }
         ensures { IsNextOutstanding self.now.outstanding from result }
@@ -80,6 +81,7 @@ impl Outbox {
         self.records.trim();
     }
 
+    #[tactic(auto, using(crate::proofs::Outboxes::idle_out))]
     pub(crate) fn first(&self, number: u64) -> Option<Piece>
         requires { IsIdle self.now }
         ensures { result ≡ first_piece (fmap.get self.now.outstanding number) }

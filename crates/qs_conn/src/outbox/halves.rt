@@ -25,6 +25,7 @@ pub(super) fn is_open(types: &[SendLanes; 4], stream: StreamId) -> bool
 }
 
 /// What holds of an open stream's half. It does nothing: a caller learns the clause.
+#[tactic(auto, using(qs_machine::proofs::TableEdits::open_there, qs_machine::proofs::TableEdits::half_is))]
 pub(super) fn learn_lawful(types: &[SendLanes; 4], stream: StreamId)
     requires len { length types.now ≡ 4 }
     requires open { is_some (lookup (tables_of types.now) stream) ≡ true }
@@ -35,6 +36,7 @@ pub(super) fn learn_lawful(types: &[SendLanes; 4], stream: StreamId)
 }
 
 #[inline(always)]
+#[tactic(auto, using(qs_machine::proofs::TableEdits::open_there, qs_machine::proofs::TableEdits::half_at))]
 pub(super) fn half_of(types: &[SendLanes; 4], stream: StreamId) -> SendView<'_>
     requires len { length types.now ≡ 4 }
     requires open { is_some (lookup (tables_of types.now) stream) ≡ true }
@@ -64,6 +66,7 @@ pub(super) fn may_have(types: &[SendLanes; 4], task: Task) -> bool
 /// The least number from one on of a stream whose half has a task. It stands apart, so that where no half has it a caller pays for the
 /// look at that alone.
 #[inline(never)]
+#[tactic(auto, using(crate::proofs::Marked::kinds_four))]
 pub(super) fn next_with(types: &[SendLanes; 4], task: Task, from: u64) -> Option<StreamId>
     requires len { length types.now ≡ 4 }
     requires from { from ≤ 2 ^ 62 }
@@ -97,6 +100,7 @@ fn next_of(types: &[SendLanes; 4], task: Task, stream_type: usize, from: u64) ->
 
 /// Of a type of which no half has a mark a caller pays for one look.
 #[inline(always)]
+#[tactic(auto, using(crate::proofs::Marked::kinds_four))]
 pub(super) fn next_sought(
     types: &[SendLanes; 4],
     search: Search,

@@ -44,6 +44,7 @@ impl Outbox {
         half.next_chunk(room, fresh)
     }
 
+    #[tactic(auto, using(crate::proofs::Outboxes::half_there))]
     pub(crate) fn has_unsent(&self, stream: StreamId) -> bool
         requires { is_some (lookup self.now.sends stream) ≡ true }
         ensures { (s : Sending) × HasSending self.now stream s × (result ≡ has_unsent s.lane) }
@@ -54,6 +55,7 @@ impl Outbox {
         half.has_unsent()
     }
 
+    #[tactic(auto, using(crate::proofs::Outboxes::half_there))]
     pub(crate) fn is_held_by_room(&self, stream: StreamId, room: usize, fresh: u64) -> bool
         requires { is_some (lookup self.now.sends stream) ≡ true }
         ensures { (s : Sending) × HasSending self.now stream s × (IsTrue result ↔ IsHeldByRoom s room fresh) }
@@ -104,14 +106,14 @@ impl Outbox {
         self.spare -= 1;
     }
 
-    #[tactic(auto, using(crate::proofs::LastStreams::pieces_there))]
+    #[tactic(auto, using(crate::proofs::MadePackets::pieces_there))]
     pub(crate) fn last_stream(&self) -> Option<StreamId>
         ensures { result ≡ last_data None (pieces_at self.now.outstanding self.now.next) }
     {
         last_data(&self.pending)
     }
 
-    #[tactic(auto, using(crate::proofs::OutboxMaking::piece_there))]
+    #[tactic(auto, using(crate::proofs::Flows::piece_there))]
     pub(crate) fn has_piece(&self) -> bool
         ensures { result ≡ is_some (fmap.get self.now.outstanding self.now.next) }
     {
@@ -144,6 +146,7 @@ fn note_told(types: &mut [SendLanes; 4], item: &Item)
     }
 }
 
+#[tactic(auto, using(qs_machine::proofs::TableEdits::open_there, qs_machine::proofs::TableEdits::updated_is))]
 fn note_blocked(types: &mut [SendLanes; 4], stream: StreamId)
     ensures len { length types.new ≡ 4 }
     ensures after { tables_of types.new ≡ updated (tables_of types.old) stream after_blocked (lookup (tables_of types.old) stream) }
@@ -171,6 +174,7 @@ fn put_pieces(records: &mut Records, number: u64, pending: &mut Vec<Piece>, room
 }
 
 // Mostly the last piece, as control frames go in first.
+#[tactic(auto, using(crate::proofs::MadePackets::last_at))]
 fn last_data(pieces: &[Piece]) -> Option<StreamId>
     ensures { result ≡ last_data None pieces.now }
 {

@@ -24,6 +24,7 @@ pub(crate) struct Row {
 impl Outbox {
     /// From a number down to `low` at most. `None` if that packet carried anything but bytes, or none below it is outstanding.
     #[inline(always)]
+    #[tactic(auto, using(crate::proofs::Outboxes::idle_out))]
     pub(crate) fn row(&self, number: u64, low: u64) -> Option<Row>
         requires { IsIdle self.now }
         ensures { IfSome result (λ r. IsRowFrom self.now.outstanding r.stream number low r.first r.chunk) }
@@ -51,7 +52,7 @@ impl Outbox {
     }
 }
 
-#[tactic(auto, using(crate::proofs::Rows::row_longer, crate::proofs::Rows::row_one))]
+#[tactic(auto, using(crate::proofs::Outboxes::row_longer, crate::proofs::Outboxes::row_one))]
 fn row_of(records: &Records, number: u64, low: u64) -> Option<Row>
     ensures { IfSome result (λ r. IsRowFrom records.now.pieces r.stream number low r.first r.chunk) }
 {
@@ -135,6 +136,7 @@ fn bytes_in(piece: &Piece, first: u64) -> Option<Row>
     }
 }
 
+#[tactic(auto, using(crate::proofs::Outboxes::row_less))]
 fn drop_row(records: &mut Records, first: u64, number: u64)
     requires { first ≤ number }
     ensures pieces { records.new.pieces ≡ without_row first (number - first) records.old.pieces }

@@ -69,13 +69,13 @@ impl Bits {
         self.count = count;
     }
 
-    #[inline]
+    #[inline(always)]
     pub(crate) fn has(&self, index: usize) -> bool {
         let word = self.word(index / FLAGS_PER_WORD);
         has_bit(word, index % FLAGS_PER_WORD)
     }
 
-    #[inline]
+    #[inline(always)]
     pub(crate) fn set(&mut self, index: usize, is_marked: bool) {
         let place = index / FLAGS_PER_WORD;
         self.words[place] = with_bit(self.words[place], index % FLAGS_PER_WORD, is_marked);
@@ -89,6 +89,7 @@ pub(crate) trait Row {
 }
 
 impl Row for Bits {
+    #[inline(always)]
     fn word(&self, place: usize) -> u64 {
         if place >= self.words.len() {
             return 0;
@@ -121,6 +122,7 @@ impl Row for Left<'_> {
     }
 }
 
+#[inline(always)]
 fn has_bit(word: u64, bit: usize) -> bool {
     debug_assert!(bit < 64);
     (word >> bit) & 1 == 1

@@ -2,7 +2,7 @@
 //! What the peer said blocks it, until the application is notified. It is no state of an endpoint, so it is kept beside.
 
 use crate::proved::qs_conn::by_dir::ByDir;
-use crate::proved::qs_conn::places::lesser;
+use crate::proved::qs_conn::places::least_stream;
 use crate::proved::qs_conn::told_streams::ToldStreams;
 use crate::proved::qs_ranges::NoMemory;
 use crate::proved::qs_wire::{Dir, StreamId};
@@ -68,16 +68,22 @@ impl BlockedMarks {
 
     #[inline]
     pub(crate) fn next_stream(&self) -> Option<StreamId> {
-        let bidi = lesser(self.next_of(0), self.next_of(1));
-        let uni = lesser(self.next_of(2), self.next_of(3));
-        lesser(bidi, uni)
+        if !self.streams.may_have() {
+            return None;
+        }
+        least_stream(
+            self.next_of(0),
+            self.next_of(1),
+            self.next_of(2),
+            self.next_of(3),
+        )
     }
 
-    fn next_of(&self, stream_type: usize) -> Option<StreamId> {
+    fn next_of(&self, stream_type: usize) -> Option<u64> {
         debug_assert!(stream_type < 4);
         let told = self.streams.of_type(stream_type);
         match told.marks().next(0) {
-            Some(index) => StreamId::new((index * 4 + stream_type) as u64),
+            Some(index) => Some((index * 4 + stream_type) as u64),
             None => None,
         }
     }

@@ -127,6 +127,15 @@ impl Marks {
         search(from, self.marks.words(), &summary, &row)
     }
 
+    /// Whether one of those with a mark may not have been told.
+    #[inline(always)]
+    pub(crate) fn may_have_untold(&self, told: &ToldMarks) -> bool {
+        match self.first {
+            Some(_first) => self.last >= told.first(),
+            None => false,
+        }
+    }
+
     /// If only these marks count, they are both, so that one search serves all.
     #[inline(always)]
     pub(crate) fn next_untold(&self, others: &Marks, told: &ToldMarks, from: usize) -> Option<usize> {
@@ -211,13 +220,4 @@ fn next_word<S: Row>(from: usize, words: usize, summary: &S) -> usize {
         bit = 0;
     }
     from.max(words)
-}
-
-#[inline]
-pub(crate) fn least(a: Option<u64>, b: Option<u64>) -> Option<u64> {
-    match (a, b) {
-        (Some(a), Some(b)) => Some(a.min(b)),
-        (Some(a), None) => Some(a),
-        (None, b) => b,
-    }
 }

@@ -115,7 +115,7 @@ impl Outbox {
         self.next
     }
 
-    #[inline]
+    #[inline(always)]
     pub(crate) fn sent_sum(&self) -> u64 {
         self.sent
     }

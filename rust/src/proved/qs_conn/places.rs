@@ -1,7 +1,6 @@
 // Made from crates/qs_conn/src/places.rt by rust/erase; not edited by hand.
 //! Where a stream stands in a table.
 
-use crate::proved::qs_conn::marks::least;
 use crate::proved::qs_wire::StreamId;
 
 /// A stream with its place in a table, which is worked out once for a frame and not at each look.
@@ -13,7 +12,7 @@ pub(crate) struct Place {
 }
 
 impl Place {
-    #[inline]
+    #[inline(always)]
     pub(crate) fn of(stream: StreamId) -> Place {
         let number = stream.value();
         Place {
@@ -24,12 +23,12 @@ impl Place {
     }
 }
 
-#[inline]
+#[inline(always)]
 pub(crate) fn type_of(stream: StreamId) -> usize {
     (stream.value() % 4) as usize
 }
 
-#[inline]
+#[inline(always)]
 pub(crate) fn index_of(stream: StreamId) -> usize {
     (stream.value() / 4) as usize
 }
@@ -41,13 +40,10 @@ pub(crate) fn index_from(stream_type: usize, from: u64) -> usize {
     ((from + 3 - stream_type as u64) / 4) as usize
 }
 
-#[inline]
-pub(crate) fn lesser(a: Option<StreamId>, b: Option<StreamId>) -> Option<StreamId> {
-    match (a, b) {
-        (Some(first), Some(second)) if second.value() < first.value() => b,
-        (Some(_first), _) => a,
-        (None, _) => b,
-    }
+/// `None` is as a number past all streams.
+#[inline(always)]
+pub(crate) fn lesser(a: Option<u64>, b: Option<u64>) -> Option<StreamId> {
+    StreamId::new(a.unwrap_or(u64::MAX).min(b.unwrap_or(u64::MAX)))
 }
 
 /// One for each type, since tables are by type and a search goes by number.
@@ -58,10 +54,8 @@ pub(crate) fn least_stream(
     c: Option<u64>,
     d: Option<u64>,
 ) -> Option<StreamId> {
-    let bidi = least(a, b);
-    let uni = least(c, d);
-    match least(bidi, uni) {
-        Some(number) => StreamId::new(number),
-        None => None,
-    }
+    // None as a number past all streams': so three minima are all.
+    let bidi = a.unwrap_or(u64::MAX).min(b.unwrap_or(u64::MAX));
+    let uni = c.unwrap_or(u64::MAX).min(d.unwrap_or(u64::MAX));
+    StreamId::new(bidi.min(uni))
 }

@@ -319,6 +319,7 @@ fn sum(a: Tally, b: Tally, c: Tally, d: Tally) -> Tally {
     }
 }
 
+#[inline(always)]
 fn wrapping_sum(a: u64, b: u64, c: u64, d: u64) -> u64 {
     a.wrapping_add(b).wrapping_add(c).wrapping_add(d)
 }

@@ -38,7 +38,7 @@ impl Touches {
         self.marks.close_to(count);
     }
 
-    #[inline]
+    #[inline(always)]
     pub(crate) fn is_none(&self) -> bool {
         matches!(self.lanes, Touched::Nothing)
     }

@@ -1,4 +1,4 @@
-use Rattle.qs_conn.proofs.Named.{least_named}
+use Rattle.qs_conn.proofs.Asked.{least_named}
 use Rattle.qs_conn.proofs.ack_names.next_named.Goals as goal
 
 pub returns : goal.returns

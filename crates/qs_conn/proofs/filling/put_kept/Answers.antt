@@ -1,16 +1,13 @@
-use Rattle.std.proofs.Common.{◌≡◌, ◌≤◌, arith, sym, ap, subst, ◌∙◌, take, drop, length, reverse}
+use Rattle.std.proofs.Common.{◌≡◌, arith, sym, ap, subst, ◌∙◌, take, drop, length, reverse, rules}
 use Rattle.std.proofs.lemmas.List.{length-take-le, take_at, drop_at}
 use Rattle.qs_ranges.specs.Runs.{AreRunsOf}
 use Rattle.qs_wire.specs.Acks.{AreAckPairs, ack_of}
 use Rattle.qs_wire.specs.Grammar.{canonical}
-use Rattle.qs_conn.proofs.Texts.{ack_one}
-use Rattle.qs_conn.proofs.AckLaws.{count_runs, pairs_ok, ack_alone}
+use Rattle.qs_conn.proofs.Stages.{ack_one, count_runs, pairs_ok, ack_alone}
 use Rattle.qs_conn.proofs.filling.put_kept.Goals as goal
 
 pub slice_bounds-highest-end : goal.slice_bounds-highest-end
-slice_bounds-highest-end c =
-    let few : c.copy_pairs-count.result ≤ length c.copy_pairs-count.new.into = omega (arith, c.copy_pairs-count.ensures.count, c.copy_pairs-count.ensures.len, c.requires.few) in
-    sym (length-take-le c.copy_pairs-count.result c.copy_pairs-count.new.into few)
+slice_bounds-highest-end c = search (rules, length-take-le)
 
 pub put_delayed_ack-requires-clause-pairs : goal.put_delayed_ack-requires-clause-pairs
 put_delayed_ack-requires-clause-pairs c =
@@ -39,6 +36,4 @@ returns-in-Err-clause-alone c = λ old same due.
     absurd (omega (arith, c.in-Err.ensures.full.0, ack_one c.args.delay pairs c.requires.delay ok, c.requires.space))
 
 pub returns-in-Ok-clause-rest : goal.returns-in-Ok-clause-rest
-returns-in-Ok-clause-rest c =
-    let text = canonical (ack_of c.args.delay (take c.in-Ok._count c.reverse.new.self)) in
-    ap (drop c.in-Ok.len) c.in-Ok.ensures.written.2 ∙ drop_at text (drop c.in-Ok.len c.args.out.now) c.in-Ok.len (sym c.in-Ok.ensures.written.0)
+returns-in-Ok-clause-rest c = search (rules, drop_at)

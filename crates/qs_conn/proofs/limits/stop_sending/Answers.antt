@@ -1,6 +1,6 @@
 use Rattle.std.proofs.Common.{sym, ◌∙◌}
 use Rattle.qs_conn.specs.Filling.{end_by}
-use Rattle.qs_conn.proofs.Slots.{stop_there}
+use Rattle.qs_conn.proofs.Untolds.{stop_there}
 use Rattle.qs_conn.proofs.limits.stop_sending.Goals as goal
 
 pub returns-clause-current : goal.returns-clause-current

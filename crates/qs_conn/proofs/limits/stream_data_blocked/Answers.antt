@@ -1,5 +1,5 @@
 use Rattle.qs_conn.specs.Filling.{end_by}
-use Rattle.qs_conn.proofs.Slots.{stream_data_blocked_there}
+use Rattle.qs_conn.proofs.Untolds.{stream_data_blocked_there}
 use Rattle.qs_conn.proofs.limits.stream_data_blocked.Goals as goal
 
 pub returns-clause-current : goal.returns-clause-current

@@ -1,5 +1,5 @@
-use Rattle.std.proofs.Common.{refl, arith}
-use Rattle.qs_conn.proofs.Words.{clear_here, passed, found}
+use Rattle.std.proofs.Common.{refl, arith, rules}
+use Rattle.qs_conn.proofs.Marked.{clear_here, passed, found}
 use Rattle.qs_conn.proofs.marks.next_word.Goals as goal
 
 pub loop-place-init : goal.loop-place-init
@@ -12,7 +12,7 @@ pub loop-place-preserved : goal.loop-place-preserved
 loop-place-preserved g c = passed _ _ _ _ c.loop-place.invariant _ c.word.ensures c.in_default.ensures
 
 pub returns-clause-passed : goal.returns-clause-passed
-returns-clause-passed g c word ge lt = c.loop-place.invariant.none word ge (omega (arith, ge, lt, c.loop-place-test.false))
+returns-clause-passed g c word ge lt = search (rules)
 
 pub overflow_add-result : goal.overflow_add-result
 overflow_add-result g c = omega (arith, (c.in-Some.ensures.found c.in-Some.flag refl).1, c.requires, c.loop-place-test.true, c.div_ceil-place-end.ensures)

@@ -1,4 +1,4 @@
-use Rattle.qs_conn.proofs.Words.{IsClearTo}
+use Rattle.qs_conn.proofs.Marked.{IsClearTo}
 use Rattle.qs_conn.proofs.marks.next_word.Given as goal
 
 abbrev pub invariant-loop-place : goal.invariant-loop-place

@@ -1,5 +1,5 @@
-use Rattle.std.proofs.Common.{refl, arith}
-use Rattle.qs_conn.proofs.Words.{clear_here, summed, found, none_past}
+use Rattle.std.proofs.Common.{refl, arith, rules}
+use Rattle.qs_conn.proofs.Marked.{clear_here, summed, found, none_past}
 use Rattle.qs_conn.proofs.marks.search.Goals as goal
 
 pub loop-place-init : goal.loop-place-init
@@ -15,7 +15,7 @@ pub returns-in-Some : goal.returns-in-Some
 returns-in-Some g c = found _ _ _ _ c.loop-place.invariant _ c.word.ensures _ c.in-Some.ensures
 
 pub loop-place-preserved : goal.loop-place-preserved
-loop-place-preserved g c = summed _ _ _ _ c.loop-place.invariant _ c.word.ensures _ _ c.requires.summed c.next_word-place.ensures.from c.next_word-place.ensures.passed c.in_default.ensures
+loop-place-preserved g c = search (rules, summed)
 
 pub returns : goal.returns
-returns g c = none_past _ _ _ _ c.loop-place.invariant _ c.requires.within (omega (arith, c.loop-place-test.false))
+returns g c = search (rules, none_past)

@@ -1,5 +1,5 @@
 use Rattle.std.proofs.Common.{◌-◌}
-use Rattle.qs_conn.proofs.Words.{IsClearTo}
+use Rattle.qs_conn.proofs.Marked.{IsClearTo}
 use Rattle.qs_conn.proofs.marks.search.Given as goal
 
 abbrev pub invariant-loop-place : goal.invariant-loop-place

@@ -1,10 +1,8 @@
-use Rattle.std.proofs.Common.{◌+◌, ◌*◌, ◌∙◌, arith, subst, sym}
+use Rattle.std.proofs.Common.{◌+◌, ◌*◌, ◌∙◌, arith, subst, sym, rules}
 use Rattle.qs_recv.specs.Lane.{raise}
 use Rattle.qs_conn.specs.Untold.{HasMore}
-use Rattle.qs_conn.proofs.LaneEdits.{changed_at}
-use Rattle.qs_conn.proofs.LaneMarks.{raised_some}
-use Rattle.qs_conn.proofs.LimitMarks.{limit_rose, limit_stayed}
-use Rattle.qs_conn.proofs.SendEdits.{id_is}
+use Rattle.qs_conn.proofs.LaneEdits.{changed_at, raised_some, id_is}
+use Rattle.qs_conn.proofs.Carrieds.{limit_rose, limit_stayed}
 use Rattle.qs_conn.proofs.Untolds.{has_marked}
 use Rattle.qs_conn.proofs.recv_lanes.raise_at.Goals as goal
 
@@ -12,8 +10,7 @@ pub returns-in-Some-clause-marks : goal.returns-in-Some-clause-marks
 returns-in-Some-clause-marks c = subst (HasMore c.args.untold.now) (sym c.set.ensures) (has_marked c.args.untold.now c.unwrap-stream.result)
 
 pub returns-in-Some-clause-marked : goal.returns-in-Some-clause-marked
-returns-in-Some-clause-marked c =
-    raised_some c.args.stream_type c.args.halves.now.items c.args.untold.now c.set.new.self c.args.index c.unwrap-stream.result (id_is c.new.result c.unwrap-stream.result (c.args.index * 4 + c.args.stream_type) c.unwrap-stream.ensures c.new.ensures.some) c.set.ensures
+returns-in-Some-clause-marked c = search (rules, raised_some, id_is)
 
 pub returns-in-Some-clause-exact : goal.returns-in-Some-clause-exact
 returns-in-Some-clause-exact c =

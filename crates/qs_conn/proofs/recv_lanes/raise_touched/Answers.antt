@@ -1,12 +1,11 @@
-use Rattle.std.proofs.Common.{◌∙◌, refl, ◌<◌, length, arith}
-use Rattle.qs_conn.proofs.LaneMarks.{none_yet, one_more, past_more, all_raised, all_marked}
-use Rattle.qs_conn.proofs.Settling.{still_settled}
-use Rattle.qs_conn.proofs.LimitMarks.{stays_of, stays_twice}
+use Rattle.std.proofs.Common.{◌∙◌, ◌<◌, length, arith, rules}
+use Rattle.qs_conn.proofs.LaneEdits.{none_yet, one_more, past_more, all_raised, all_marked, still_settled}
+use Rattle.qs_conn.proofs.Carrieds.{stays_of, stays_twice}
 use Rattle.qs_conn.proofs.Untolds.{has_same, has_twice}
 use Rattle.qs_conn.proofs.recv_lanes.raise_touched.Goals as goal
 
 pub loop-index-init : goal.loop-index-init
-loop-index-init c = record { far = none_yet c.args.stream_type c.args.halves.now.items c.args.touched.now c.args.untold.now c.requires.settled; room = refl; more = has_same c.args.untold.now; exact = stays_of c.args.stream_type c.args.halves.now.items c.args.halves.now.items c.args.carried.now refl }
+loop-index-init c = search (rules, none_yet, has_same, stays_of)
 
 pub loop-index-preserved-then-index-len : goal.loop-index-preserved-then-index-len
 loop-index-preserved-then-index-len c =
@@ -32,7 +31,7 @@ pub returns-clause-after : goal.returns-clause-after
 returns-clause-after c = all_raised c.args.stream_type c.args.halves.now.items c.loop-index.halves.items c.loop-index.touched c.loop-index.untold c.loop-index.invariant.far c.in_default.ensures.taken
 
 pub returns-clause-settled : goal.returns-clause-settled
-returns-clause-settled c = rw (all_raised c.args.stream_type c.args.halves.now.items c.loop-index.halves.items c.loop-index.touched c.loop-index.untold c.loop-index.invariant.far c.in_default.ensures.taken) (still_settled c.args.halves.now.items c.pop.new.self)
+returns-clause-settled c = rw (all_raised c.args.stream_type c.args.halves.now.items c.loop-index.halves.items c.loop-index.touched c.loop-index.untold c.loop-index.invariant.far c.in_default.ensures.taken) (search (rules, still_settled))
 
 pub returns-clause-marked : goal.returns-clause-marked
 returns-clause-marked c = all_marked c.args.stream_type c.args.halves.now.items c.loop-index.halves.items c.loop-index.touched c.loop-index.untold c.loop-index.invariant.far c.in_default.ensures.taken

@@ -1,7 +1,7 @@
 use Rattle.qs_conn.specs.Touches.{times_noted}
 use Rattle.qs_conn.specs.Untold.{HasMore}
 use Rattle.qs_conn.specs.Carried.{StayExactOf}
-use Rattle.qs_conn.proofs.LaneMarks.{AreRaisedSoFar}
+use Rattle.qs_conn.proofs.LaneEdits.{AreRaisedSoFar}
 use Rattle.std.proofs.Common.{◌≡◌, length}
 use Rattle.qs_conn.proofs.recv_lanes.raise_touched.Given as goal
 

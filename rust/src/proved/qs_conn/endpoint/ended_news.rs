@@ -1,7 +1,7 @@
 // Made from crates/qs_conn/src/endpoint/ended_news.rt by rust/erase; not edited by hand.
 use super::{Endpoint, is_uni, role_bit};
 use crate::proved::qs_conn::marks::Marks;
-use crate::proved::qs_conn::places::{index_from, lesser};
+use crate::proved::qs_conn::places::{index_from, least_stream};
 use crate::proved::qs_conn::recv_marks::RecvTask;
 use crate::proved::qs_conn::told_streams::ToldStreams;
 use crate::proved::qs_wire::StreamId;
@@ -21,30 +21,27 @@ impl Endpoint {
     #[inline(always)]
     pub(crate) fn next_ended_untold(&self, told: &ToldStreams, from: u64) -> Option<StreamId> {
         debug_assert!(from <= 1 << 62);
-        let bidi = lesser(
+        least_stream(
             self.next_ended_of(0, told, from),
             self.next_ended_of(1, told, from),
-        );
-        let uni = lesser(
             self.next_ended_of(2, told, from),
             self.next_ended_of(3, told, from),
-        );
-        lesser(bidi, uni)
+        )
     }
 
     // Apart, so that a caller pays for one look at the counts if no stream is over.
     #[inline(always)]
-    fn next_ended_of(&self, stream_type: usize, told: &ToldStreams, from: u64) -> Option<StreamId> {
+    fn next_ended_of(&self, stream_type: usize, told: &ToldStreams, from: u64) -> Option<u64> {
         debug_assert!(stream_type < 4);
         debug_assert!(from <= 1 << 62);
         let (marks, _others) = self.ended_marks(stream_type);
-        if !marks.may_have() {
+        if !marks.may_have_untold(told.of_type(stream_type)) {
             return None;
         }
         let mut next = from;
         while let Some(stream) = self.next_ended_marked(stream_type, told, next) {
             if self.has_ended(stream) {
-                return Some(stream);
+                return Some(stream.value());
             }
             next = stream.value() + 1;
         }

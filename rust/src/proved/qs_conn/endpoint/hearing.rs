@@ -17,12 +17,12 @@ impl Endpoint {
         lesser(bidi, self.next_opened_of(Dir::Uni, heard.uni))
     }
 
-    fn next_opened_of(&self, dir: Dir, heard: u64) -> Option<StreamId> {
+    fn next_opened_of(&self, dir: Dir, heard: u64) -> Option<u64> {
         let stream_type = self.peer_type(dir);
         if heard >= self.opened_count(stream_type) as u64 {
             return None;
         }
-        StreamId::new(heard * 4 + stream_type as u64)
+        Some(heard * 4 + stream_type as u64)
     }
 
     #[inline]

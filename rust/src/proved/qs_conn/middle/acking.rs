@@ -20,6 +20,9 @@ impl Core {
     ) -> Result<(), NoMemory> {
         debug_assert!(largest < 1 << 62);
         self.ack_all(false, AckRanges::new(largest, ranges), told)?;
+        if !self.outbox.keeps_lost() {
+            return Ok(());
+        }
         self.ack_all(true, AckRanges::new(largest, ranges), &mut Silent)
     }
 

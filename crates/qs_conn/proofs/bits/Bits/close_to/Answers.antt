@@ -1,4 +1,4 @@
-use Rattle.qs_conn.proofs.Words.{none_closed, flags_closed}
+use Rattle.qs_conn.proofs.Marked.{none_closed, flags_closed}
 use Rattle.qs_conn.proofs.bits.Bits.close_to.Goals as goal
 
 pub returns-then-self-count : goal.returns-then-self-count

@@ -1,5 +1,5 @@
 use Rattle.std.proofs.Common.{arith}
-use Rattle.qs_conn.proofs.Words.{flags_len, flags_opened, flags_grown}
+use Rattle.qs_conn.proofs.Marked.{flags_len, flags_opened, flags_grown}
 use Rattle.qs_conn.proofs.bits.Bits.grow_to.Goals as goal
 
 pub invariant_of-self : goal.invariant_of-self

@@ -1,5 +1,5 @@
 use Rattle.std.proofs.Common.{◌^◌, arith}
-use Rattle.qs_conn.proofs.ToldTables.{noted_below}
+use Rattle.qs_conn.proofs.Marked.{noted_below}
 use Rattle.qs_conn.proofs.blocked.BlockedMarks.tell.Goals as goal
 
 pub invariant_of-self : goal.invariant_of-self

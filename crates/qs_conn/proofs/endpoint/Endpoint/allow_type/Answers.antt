@@ -1,25 +1,17 @@
-use Rattle.std.proofs.Common.{◌≡◌, ◌<◌, ◌≤◌, length, arith, ap, ◌∙◌}
+use Rattle.std.proofs.Common.{◌≡◌, ◌≤◌, length, arith, ap, ◌∙◌, rules}
 use Rattle.qs_send.specs.Lane.{allow_lane}
 use Rattle.qs_machine.specs.Tables.{table}
 use Rattle.qs_machine.specs.Ends.{End, first_send_limit}
 use Rattle.qs_machine.specs.Raising.{type_allowed}
-use Rattle.qs_conn.proofs.SendEdits.{id_is}
-use Rattle.qs_conn.proofs.Allowed.{half_there, halves_more, halves_all}
+use Rattle.qs_conn.proofs.LaneEdits.{id_is}
+use Rattle.qs_conn.proofs.Tasks.{half_there, halves_more, halves_all}
 use Rattle.qs_conn.proofs.endpoint.Endpoint.allow_type.Goals as goal
 
 pub allow_to-requires-clause-open : goal.allow_to-requires-clause-open
-allow_to-requires-clause-open c =
-    let number = id_is c.new-in-loop-index.result c.unwrap-stream.result _ c.unwrap-stream.ensures c.new-in-loop-index.ensures.some in
-    let count = c.count_of-index-end.ensures.value ∙ ap (λ (e : End). length (table e.sends c.args.stream_type)) c.self.view_is in
-    let lt : c.loop-index.index < length (table c.args.self.now.sends c.args.stream_type) = omega (arith, c.loop-index-test.true, count) in
-    half_there (λ m. allow_lane m c.first_send_limit-limit.result) c.args.stream_type c.loop-index.index c.unwrap-stream.result c.requires number c.args.self.now lt c.loop-index.self c.loop-index.invariant
+allow_to-requires-clause-open c = search (rules, id_is, half_there)
 
 pub loop-index-preserved : goal.loop-index-preserved
-loop-index-preserved c =
-    let number = id_is c.new-in-loop-index.result c.unwrap-stream.result _ c.unwrap-stream.ensures c.new-in-loop-index.ensures.some in
-    let count = c.count_of-index-end.ensures.value ∙ ap (λ (e : End). length (table e.sends c.args.stream_type)) c.self.view_is in
-    let lt : c.loop-index.index < length (table c.args.self.now.sends c.args.stream_type) = omega (arith, c.loop-index-test.true, count) in
-    halves_more (λ m. allow_lane m c.first_send_limit-limit.result) c.args.stream_type c.loop-index.index c.unwrap-stream.result c.requires number c.args.self.now lt c.loop-index.self c.allow_to.new.self c.loop-index.invariant c.allow_to.ensures
+loop-index-preserved c = search (rules, id_is, halves_more)
 
 pub returns : goal.returns
 returns c =

@@ -18,11 +18,10 @@ use Rattle.qs_conn.specs.declared.by_dir.ByDir.{ByDir}
 use Rattle.qs_conn.specs.Middle.{IsKept}
 use Rattle.qs_conn.specs.declared.carried.Carried.{Carried}
 use Rattle.qs_conn.specs.OwnCarried.{Kept}
-use Rattle.qs_conn.proofs.CarriedSteps.{carried_none}
-use Rattle.qs_conn.proofs.Owns.{own_new}
-use Rattle.qs_conn.proofs.Counted.{fit_new}
-use Rattle.qs_conn.proofs.Funded.{no_sum, no_runs}
-use Rattle.qs_conn.proofs.Runs.{idle_new}
+use Rattle.qs_conn.proofs.Carrieds.{carried_none, own_new}
+use Rattle.qs_conn.proofs.Cores.{fit_new}
+use Rattle.qs_conn.proofs.Stages.{no_sum, no_runs}
+use Rattle.qs_conn.proofs.AckRuns.{idle_new}
 use Rattle.qs_conn.specs.Untold.{TellsAt, SendTells}
 use Rattle.qs_conn.proofs.Untolds.{told_none}
 use Rattle.qs_machine.proofs.Counts.{new_ends_sound}
@@ -99,6 +98,4 @@ kept_new role s tuned p wanted o recvs ins outs t xs done is empty none no_numbe
     }
 
 pub invariant_of-result : goal.invariant_of-result
-invariant_of-result c =
-    rw (c.new.ensures, c.new-2.ensures, c.new-3.ensures, c.new-11.ensures)
-    (kept_new c.args.role c.args.settings c.args.tuning c.args.peer _ _ _ _ _ _ _ _ c.requires c.new-5.ensures c.new-6.ensures c.new-13.ensures c.new-9.ensures c.new-10.ensures)
+invariant_of-result c = rw (c.new.ensures, c.new-2.ensures, c.new-3.ensures, c.new-11.ensures) (search (rules, kept_new))

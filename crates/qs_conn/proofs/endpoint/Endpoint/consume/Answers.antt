@@ -1,5 +1,5 @@
 use Rattle.std.proofs.Common.{sym, ◌∙◌}
-use Rattle.qs_conn.proofs.OwnerSteps.{receiver_open_still}
+use Rattle.qs_conn.proofs.Hearing.{receiver_open_still}
 use Rattle.qs_conn.proofs.endpoint.Endpoint.consume.Goals as goal
 
 pub skip-next-requires : goal.skip-next-requires

@@ -1,6 +1,6 @@
 use Rattle.std.proofs.Common.{refl, sym, ◌∙◌}
 use Rattle.qs_conn.proofs.Cores.{kept_streams}
-use Rattle.qs_conn.proofs.Runs.{lost_ok, lost_err}
+use Rattle.qs_conn.proofs.AckRuns.{lost_ok, lost_err}
 use Rattle.qs_conn.proofs.endpoint.Endpoint.declare_lost.Goals as goal
 use Rattle.qs_conn.proofs.endpoint.Endpoint.declare_lost.Goals.{in-Ok, in-Err}
 

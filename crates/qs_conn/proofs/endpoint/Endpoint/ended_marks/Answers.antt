@@ -1,6 +1,6 @@
 use Rattle.qs_conn.specs.declared.recv_marks.RecvTask.TheVariants.{Ended}
-use Rattle.qs_conn.proofs.RecvNews.{none_marked}
-use Rattle.qs_conn.proofs.EndedUntold.{bidi_marks, own_marks, peers_marks}
+use Rattle.qs_conn.proofs.Marked.{none_recv_marked as none_marked}
+use Rattle.qs_conn.proofs.Hearing.{bidi_marks, own_marks, peers_marks}
 use Rattle.qs_conn.proofs.endpoint.Endpoint.ended_marks.Goals as goal
 
 pub returns-then-stream_type-lt2-clause-none : goal.returns-then-stream_type-lt2-clause-none

@@ -1,14 +1,13 @@
-use Rattle.std.proofs.Common.{◌≡◌, ℕ, ◌∙◌, arith, refl, sym, subst, length, take, drop, ap}
+use Rattle.std.proofs.Common.{◌∙◌, arith, refl, sym, take, ap, rules}
 use Rattle.std.proofs.lemmas.List.{length-take-le}
 use Rattle.qs_calls.specs.declared.token.Token.{Token}
 use Rattle.qs_conn.proofs.Cores.{core_outbox, kept_streams}
-use Rattle.qs_conn.proofs.MadePackets.{packed_by, filled_next, idle_none, fill_exhausted, fill_none, fill_some, fill_order}
+use Rattle.qs_conn.proofs.MadePackets.{packed_by, filled_next, idle_none, fill_exhausted, fill_none, fill_some, fill_order, memory_begun}
 use Rattle.qs_conn.proofs.Rests.{behind_none, behind_kept}
-use Rattle.qs_conn.proofs.Stills.{memory_begun}
 use Rattle.qs_conn.proofs.endpoint.Endpoint.fill.Goals as goal
 
 pub returns-then-number-gt-MAX_VARINT-clause-step : goal.returns-then-number-gt-MAX_VARINT-clause-step
-returns-then-number-gt-MAX_VARINT-clause-step c = fill_exhausted _ c.args.self.now c.args.want.now (length c.args.out.now) c.self.view_is (sym c.is_some.ensures ∙ c.if-is_some.false) (omega (arith, c.if-number-gt-MAX_VARINT.true, c.next-number.ensures))
+returns-then-number-gt-MAX_VARINT-clause-step c = search (rules, fill_exhausted)
 
 pub fill-packet-requires-clause-filling : goal.fill-packet-requires-clause-filling
 fill-packet-requires-clause-filling c =
@@ -36,10 +35,7 @@ commit-requires c =
     omega (arith, filled_next _ c.fill-packet.new.self c.self.inside.ack_due _ _ _ _ _ _ p, c.if-number-gt-MAX_VARINT.false, c.next-number.ensures)
 
 pub invariant_of-self-2 : goal.invariant_of-self-2
-invariant_of-self-2 c =
-    let filled = c.fill-packet.ensures.filled in
-    let core = core_outbox c.fill-packet.new.self filled.filling.core _ _ c.commit.new.self c.commit.ensures.after in
-    kept_streams c.self.inside.core _ _ _ _ _ c.self.invariant (record c.fill-packet.new.self { outbox = c.commit.new.self }) (record { core = core; idle = c.commit.ensures.idle }) (record { limits = filled.streams.limits; recvs = filled.streams.recvs }) filled.ended
+invariant_of-self-2 c = search (rules, core_outbox, kept_streams)
 
 pub returns-clause-step : goal.returns-clause-step
 returns-clause-step c =
@@ -50,13 +46,13 @@ returns-clause-step c =
     (omega (arith, c.if-len-eq0.false)) (sym (length-take-le _ _ c.fill-packet.ensures.filled.filling.within)) (omega (arith, c.fill-packet.ensures.filled.filling.within, c.fill-packet.ensures.filled.room))
 
 pub returns-in-Err-clause-rest : goal.returns-in-Err-clause-rest
-returns-in-Err-clause-rest c = behind_none c.unfilled.result c.args.out.now (c.unfilled.ensures.text c.args.out.now)
+returns-in-Err-clause-rest c = search (rules, behind_none)
 
 pub returns-then-len-eq0-clause-rest : goal.returns-then-len-eq0-clause-rest
-returns-then-len-eq0-clause-rest c = subst (λ (k : ℕ). drop k c.fill-packet.new.out ≡ drop k c.args.out.now) c.if-len-eq0.true c.fill-packet.ensures.filled.rest.1
+returns-then-len-eq0-clause-rest c = search (rules)
 
 pub returns-clause-rest : goal.returns-clause-rest
-returns-clause-rest c = behind_kept (record { token = c.token_of-token.result; len = c.fill-packet.result.len; last_stream = c.last_stream-last_stream.result; more = c.has_more-more.result }) c.args.out.now c.fill-packet.new.out c.fill-packet.ensures.filled.filling.within c.fill-packet.ensures.filled.rest.1
+returns-clause-rest c = search (rules, behind_kept)
 
 pub returns-in-Err-clause-order : goal.returns-in-Err-clause-order
 returns-in-Err-clause-order c = c.unfilled.ensures.order _ _

@@ -1,6 +1,6 @@
 use Rattle.std.proofs.Common.{refl}
 use Rattle.qs_machine.specs.Filling.{WantedGoes, still_asked}
-use Rattle.qs_conn.proofs.Sendables.{tells_at}
+use Rattle.qs_conn.proofs.MadePackets.{tells_at}
 use Rattle.qs_conn.proofs.endpoint.Endpoint.has_more.Goals as goal
 
 pub returns : goal.returns

@@ -1,4 +1,4 @@
-use Rattle.qs_conn.proofs.Helds.{is_held}
+use Rattle.qs_conn.proofs.Tasks.{is_held}
 use Rattle.qs_conn.proofs.endpoint.Endpoint.held.Goals as goal
 
 pub returns : goal.returns

@@ -3,8 +3,8 @@ use Rattle.std.proofs.lemmas.Bool.Decides.{nat_tests}
 use Rattle.qs_machine.specs.Tables.{type_of, index_of}
 use Rattle.qs_machine.specs.Ends.{recv_lane}
 use Rattle.qs_conn.specs.Plain.{IsPlainLane}
-use Rattle.qs_conn.proofs.Openings.{none_is}
-use Rattle.qs_conn.proofs.Plains.{plain_uni, plain_bidi}
+use Rattle.qs_conn.proofs.Outboxes.{none_is}
+use Rattle.qs_conn.proofs.Cores.{plain_uni, plain_bidi}
 use Rattle.qs_conn.proofs.endpoint.Endpoint.is_plain.Goals as goal
 
 pub returns-then-stream-ge2 : goal.returns-then-stream-ge2

@@ -2,8 +2,8 @@ use Rattle.std.proofs.Common.{◌∙◌, sym, ap, is_some, refl}
 use Rattle.std.proofs.lemmas.Bool.{true≢false}
 use Rattle.qs_machine.specs.Ends.{End}
 use Rattle.qs_conn.specs.Sending.{FrameGoes}
-use Rattle.qs_conn.proofs.Openings.{none_is}
-use Rattle.qs_conn.proofs.Sendables.{tells_at}
+use Rattle.qs_conn.proofs.Outboxes.{none_is}
+use Rattle.qs_conn.proofs.MadePackets.{tells_at}
 use Rattle.qs_conn.proofs.endpoint.Endpoint.is_sendable.Goals as goal
 
 pub returns-then-is_some : goal.returns-then-is_some

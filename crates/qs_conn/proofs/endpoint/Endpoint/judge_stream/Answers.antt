@@ -4,7 +4,7 @@ use Rattle.qs_recv.specs.Lane.{check_stream, check_bytes}
 use Rattle.qs_recv.specs.Lawful.{IsLawful}
 use Rattle.qs_machine.specs.Ends.{recv_lane, first_window}
 use Rattle.qs_machine.specs.Verdicts.{or_new, state_fault_in, credit_fault, bytes_fault, fault_of, lane_of}
-use Rattle.qs_conn.proofs.Rises.{rise_changes, no_fault}
+use Rattle.qs_conn.proofs.MadePackets.{rise_changes, no_fault}
 use Rattle.qs_conn.proofs.endpoint.Endpoint.judge_stream.Goals as goal
 
 pub returns-in-Ok : goal.returns-in-Ok

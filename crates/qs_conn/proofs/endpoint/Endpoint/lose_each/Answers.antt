@@ -1,5 +1,5 @@
 use Rattle.std.proofs.Common.{arith, rules, ◌-◌}
-use Rattle.qs_conn.proofs.Alones.{each_stop}
+use Rattle.qs_conn.proofs.Asked.{each_stop}
 use Rattle.qs_conn.proofs.endpoint.Endpoint.lose_each.Goals as goal
 
 pub returns-in_err-lose_one : goal.returns-in_err-lose_one

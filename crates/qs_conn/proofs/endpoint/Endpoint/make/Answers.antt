@@ -1,13 +1,12 @@
-use Rattle.std.proofs.Common.{◌≡◌, ℕ, ◌∙◌, arith, false, refl, sym, ap, subst, length, take, drop}
+use Rattle.std.proofs.Common.{◌∙◌, arith, false, refl, sym, ap, take, rules}
 use Rattle.std.proofs.lemmas.List.{length-take-le}
 use Rattle.qs_conn.proofs.Cores.{core_outbox, kept_streams, kept_no_ack}
-use Rattle.qs_conn.proofs.MadePackets.{ack_left, packed_by, filled_next, idle_none, make_exhausted, make_none, make_some, make_order}
+use Rattle.qs_conn.proofs.MadePackets.{ack_left, packed_by, filled_next, idle_none, make_exhausted, make_none, make_some, make_order, memory_begun}
 use Rattle.qs_conn.proofs.Rests.{rest_none, rest_kept}
-use Rattle.qs_conn.proofs.Stills.{memory_begun}
 use Rattle.qs_conn.proofs.endpoint.Endpoint.make.Goals as goal
 
 pub returns-then-number-gt-MAX_NUMBER-clause-step : goal.returns-then-number-gt-MAX_NUMBER-clause-step
-returns-then-number-gt-MAX_NUMBER-clause-step c = make_exhausted _ c.args.self.now c.args.first c.args.delay (length c.args.out.now) c.self.view_is (sym c.is_some.ensures ∙ c.if-is_some.false) (omega (arith, c.if-number-gt-MAX_NUMBER.true, c.next-number.ensures))
+returns-then-number-gt-MAX_NUMBER-clause-step c = search (rules, make_exhausted)
 
 pub fill-len-requires-clause-filling : goal.fill-len-requires-clause-filling
 fill-len-requires-clause-filling c =
@@ -35,10 +34,7 @@ commit-requires c =
     omega (arith, filled_next _ c.fill-len.new.self false _ _ _ _ _ _ p, c.if-number-gt-MAX_NUMBER.false, c.next-number.ensures)
 
 pub invariant_of-self-2 : goal.invariant_of-self-2
-invariant_of-self-2 c =
-    let filled = c.fill-len.ensures.filled in
-    let core = core_outbox c.fill-len.new.self filled.filling.core _ _ c.commit.new.self c.commit.ensures.after in
-    kept_no_ack _ _ _ _ _ _ (kept_streams c.self.inside.core _ _ _ _ _ c.self.invariant (record c.fill-len.new.self { outbox = c.commit.new.self }) (record { core = core; idle = c.commit.ensures.idle }) (record { limits = filled.streams.limits; recvs = filled.streams.recvs }) filled.ended)
+invariant_of-self-2 c = search (rules, core_outbox, kept_no_ack, kept_streams)
 
 pub returns-clause-step : goal.returns-clause-step
 returns-clause-step c =
@@ -48,13 +44,13 @@ returns-clause-step c =
     (omega (arith, c.if-len-eq0.false)) (sym (length-take-le _ _ c.fill-len.ensures.filled.filling.within)) (omega (arith, c.fill-len.ensures.filled.filling.within, c.fill-len.ensures.filled.room)) c.requires.most
 
 pub returns-in-Err-clause-rest : goal.returns-in-Err-clause-rest
-returns-in-Err-clause-rest c = rest_none c.without_memory.result c.args.out.now (c.without_memory.ensures.text c.args.out.now)
+returns-in-Err-clause-rest c = search (rules, rest_none)
 
 pub returns-then-len-eq0-clause-rest : goal.returns-then-len-eq0-clause-rest
-returns-then-len-eq0-clause-rest c = subst (λ (k : ℕ). drop k c.fill-len.new.out ≡ drop k c.args.out.now) c.if-len-eq0.true c.fill-len.ensures.filled.rest.1
+returns-then-len-eq0-clause-rest c = search (rules)
 
 pub returns-clause-rest : goal.returns-clause-rest
-returns-clause-rest c = rest_kept (record { number = c.next-number.result; len = c.fill-len.result.len; is_ack_eliciting = c.has_piece-is_ack_eliciting.result }) c.args.out.now c.fill-len.new.out c.fill-len.ensures.filled.filling.within c.fill-len.ensures.filled.rest.1
+returns-clause-rest c = search (rules, rest_kept)
 
 pub returns-in-Err-clause-order : goal.returns-in-Err-clause-order
 returns-in-Err-clause-order c = c.without_memory.ensures.order _ _

@@ -2,7 +2,7 @@ use Rattle.std.proofs.Common.{◌∙◌, sym, ap, refl, inl, inr}
 use Rattle.std.proofs.lemmas.Bool.{true≢false}
 use Rattle.qs_machine.specs.Ends.{End}
 use Rattle.qs_conn.specs.Sending.{FrameGoes}
-use Rattle.qs_conn.proofs.Sendables.{tells_at}
+use Rattle.qs_conn.proofs.MadePackets.{tells_at}
 use Rattle.qs_conn.proofs.endpoint.Endpoint.may_make.Goals as goal
 
 pub returns-then-self : goal.returns-then-self

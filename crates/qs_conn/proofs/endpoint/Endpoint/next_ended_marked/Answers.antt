@@ -1,6 +1,6 @@
 use Rattle.std.proofs.Common.{◌+◌, ◌*◌, arith}
 use Rattle.qs_machine.specs.News.{IsEnded}
-use Rattle.qs_conn.proofs.EndedUntold.{before_numbered, none_marked, none_between, found_below, numbered}
+use Rattle.qs_conn.proofs.Hearing.{before_numbered, none_marked, none_between, found_below, numbered}
 use Rattle.qs_conn.proofs.endpoint.Endpoint.next_ended_marked.Goals as goal
 
 pub returns-in_err-index-clause-none : goal.returns-in_err-index-clause-none

@@ -1,7 +1,7 @@
 use Rattle.std.proofs.Common.{◌-◌, ◌≤◌, ◌^◌}
 use Rattle.qs_machine.specs.News.{IsEnded}
 use Rattle.qs_conn.specs.Marks.{IsUntoldOf}
-use Rattle.qs_conn.proofs.Least.{IsClear}
+use Rattle.qs_conn.proofs.Marked.{IsClear}
 use Rattle.qs_conn.proofs.endpoint.Endpoint.next_ended_of.Given as goal
 
 abbrev pub invariant-loop-stream : goal.invariant-loop-stream

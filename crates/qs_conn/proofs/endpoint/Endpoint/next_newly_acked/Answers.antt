@@ -1,4 +1,4 @@
-use Rattle.qs_conn.proofs.Named.{goes_on}
+use Rattle.qs_conn.proofs.Asked.{goes_on}
 use Rattle.qs_conn.proofs.endpoint.Endpoint.next_newly_acked.Goals as goal
 
 pub loop-number-preserved : goal.loop-number-preserved

@@ -1,5 +1,5 @@
 use Rattle.std.proofs.Common.{◌-◌, ◌^◌}
-use Rattle.qs_conn.proofs.Named.{NoneBelow}
+use Rattle.qs_conn.proofs.Asked.{NoneBelow}
 use Rattle.qs_conn.proofs.endpoint.Endpoint.next_newly_acked.Given as goal
 
 -- none that was passed is newly acknowledged

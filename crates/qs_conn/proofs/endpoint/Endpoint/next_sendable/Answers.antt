@@ -1,5 +1,5 @@
 use Rattle.std.proofs.Common.{refl}
-use Rattle.qs_conn.proofs.Sought.{sendable_least}
+use Rattle.qs_conn.proofs.Hearing.{sendable_least}
 use Rattle.qs_conn.proofs.endpoint.Endpoint.next_sendable.Goals as goal
 
 pub returns : goal.returns

@@ -1,7 +1,6 @@
 use Rattle.std.proofs.Common.{refl}
 use Rattle.qs_wire.specs.Varint.{numbers_of}
-use Rattle.qs_conn.proofs.AckRuns.{ack_comes}
-use Rattle.qs_conn.proofs.NewlyTold.{told_ranges}
+use Rattle.qs_conn.proofs.AckRuns.{ack_comes, told_ranges}
 use Rattle.qs_conn.proofs.Cores.{kept_recounted}
 use Rattle.qs_conn.proofs.endpoint.Endpoint.on_ack.Goals as goal
 

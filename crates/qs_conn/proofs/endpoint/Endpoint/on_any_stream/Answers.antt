@@ -8,21 +8,19 @@ use Rattle.qs_machine.specs.Memory.{HasNews}
 use Rattle.qs_machine.specs.Standing.{IsInCredit}
 use Rattle.qs_machine.specs.Sums.{tally_on}
 use Rattle.qs_machine.specs.Outgoing.{Outgoing, AreOfOpen, sent_sum}
-use Rattle.qs_conn.proofs.Counted.{fit_recvs, fit_streamed, closed_counted}
-use Rattle.qs_conn.proofs.Counting.{may_recount}
+use Rattle.qs_conn.proofs.Cores.{fit_recvs, fit_streamed, closed_counted, kept_moved, rest_recvs, told_streamed}
+use Rattle.qs_conn.proofs.MadePackets.{may_recount}
 use Rattle.qs_conn.specs.Ended.{AreAllCounted, IsToldOfEnd}
-use Rattle.qs_conn.proofs.CarriedSteps.{carried_recv, carried_closed, peer_outstanding}
-use Rattle.qs_conn.proofs.Cores.{kept_moved, rest_recvs}
-use Rattle.qs_conn.proofs.Runs.{idle_with}
+use Rattle.qs_conn.proofs.Carrieds.{carried_recv, carried_closed, peer_outstanding}
+use Rattle.qs_conn.proofs.AckRuns.{idle_with}
 use Rattle.qs_machine.proofs.Taken.{in_there, stream_in, stream_checked, stream_unchanged, stream_sound, sends_back, recvs_back, tally_back, restored_out, peer_none, peer_lost, peer_unsent, back_sound}
-use Rattle.qs_conn.proofs.Calm.{told_streamed}
 use Rattle.qs_conn.specs.Carried.{AreCarried}
 use Rattle.qs_conn.specs.OwnCarried.{AreOwn}
 use Rattle.qs_conn.specs.Untold.{AreTold, TellsAt, SendTells}
 use Rattle.qs_conn.proofs.Untolds.{told_closed}
 use Rattle.qs_machine.specs.Asking.{kept_on}
 use Rattle.qs_conn.specs.Promised.{promised_on}
-use Rattle.qs_conn.proofs.Promised.{peer_unwritten}
+use Rattle.qs_conn.proofs.Tasks.{peer_unwritten}
 use Rattle.qs_conn.proofs.endpoint.Endpoint.on_any_stream.Goals as goal
 
 pub take_stream-requires-clause-open : goal.take_stream-requires-clause-open

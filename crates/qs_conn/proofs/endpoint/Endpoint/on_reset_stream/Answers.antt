@@ -4,12 +4,10 @@ use Rattle.qs_machine.specs.Tables.{Tables}
 use Rattle.qs_machine.specs.Ends.{End, on_recv}
 use Rattle.qs_conn.specs.contracts.endpoint.Endpoint.{the_view}
 use Rattle.qs_machine.specs.Standing.{IsInCredit}
-use Rattle.qs_conn.proofs.Counted.{fit_broken}
-use Rattle.qs_conn.proofs.Counting.{may_recount}
-use Rattle.qs_conn.proofs.CarriedSteps.{carried_recv, broken_keeps}
-use Rattle.qs_conn.proofs.Cores.{kept_moved, rest_recvs}
+use Rattle.qs_conn.proofs.Cores.{fit_broken, kept_moved, rest_recvs, told_broken}
+use Rattle.qs_conn.proofs.MadePackets.{may_recount}
+use Rattle.qs_conn.proofs.Carrieds.{carried_recv, broken_keeps}
 use Rattle.qs_machine.proofs.Taken.{in_there, reset_in, reset_checked, reset_sound}
-use Rattle.qs_conn.proofs.Calm.{told_broken}
 use Rattle.qs_conn.proofs.endpoint.Endpoint.on_reset_stream.Goals as goal
 
 pub take_reset-requires-clause-open : goal.take_reset-requires-clause-open

@@ -4,10 +4,8 @@ use Rattle.qs_machine.specs.Tables.{lookup}
 use Rattle.qs_machine.specs.Ends.{End}
 use Rattle.qs_machine.specs.Standing.{IsInCredit}
 use Rattle.qs_machine.proofs.Taken.{in_there, stream_in, stream_checked, stream_unchanged, stream_sound}
-use Rattle.qs_conn.proofs.Calm.{told_streamed}
-use Rattle.qs_conn.proofs.CarriedSteps.{carried_recv}
-use Rattle.qs_conn.proofs.Cores.{kept_next, rest_recvs}
-use Rattle.qs_conn.proofs.Plains.{plain_next, fit_plain}
+use Rattle.qs_conn.proofs.Cores.{told_streamed, kept_next, rest_recvs, plain_next, fit_plain}
+use Rattle.qs_conn.proofs.Carrieds.{carried_recv}
 use Rattle.qs_conn.proofs.endpoint.Endpoint.on_stream.Goals as goal
 
 pub take_stream-requires-clause-open : goal.take_stream-requires-clause-open

@@ -3,9 +3,9 @@ use Rattle.qs_machine.specs.Asking.{kept_on}
 use Rattle.qs_machine.specs.Ends.{End, first_window}
 use Rattle.qs_machine.proofs.Taken.{none_back, lost_back, unsent_back, out_back}
 use Rattle.qs_conn.specs.Promised.{promised_on}
-use Rattle.qs_conn.proofs.CarriedSteps.{wide_all}
+use Rattle.qs_conn.proofs.Carrieds.{wide_all}
 use Rattle.qs_conn.proofs.Cores.{kept_moved, kept_streams, rest_opened, rest_placed, rest_ins_placed}
-use Rattle.qs_conn.proofs.Promised.{unwritten_back}
+use Rattle.qs_conn.proofs.Tasks.{unwritten_back}
 use Rattle.qs_conn.proofs.endpoint.Endpoint.open_stream.Goals as goal
 
 pub returns-in-Err-clause-err : goal.returns-in-Err-clause-err

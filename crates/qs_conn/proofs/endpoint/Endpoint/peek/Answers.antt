@@ -1,5 +1,5 @@
 use Rattle.std.proofs.Common.{sym, ◌∙◌}
-use Rattle.qs_conn.proofs.OwnerSteps.{peek_ok}
+use Rattle.qs_conn.proofs.Hearing.{peek_ok}
 use Rattle.qs_conn.proofs.endpoint.Endpoint.peek.Goals as goal
 
 pub returns : goal.returns

@@ -1,7 +1,7 @@
 use Rattle.std.proofs.Common.{[], length, refl, sym, ◌∙◌}
-use Rattle.qs_conn.proofs.Counting.{may_recount}
+use Rattle.qs_conn.proofs.MadePackets.{may_recount}
 use Rattle.qs_conn.proofs.Cores.{kept_moved, rest_read}
-use Rattle.qs_conn.proofs.OwnerSteps.{read_none}
+use Rattle.qs_conn.proofs.Hearing.{read_none}
 use Rattle.qs_conn.proofs.endpoint.Endpoint.read.Goals as goal
 
 pub invariant_of-self : goal.invariant_of-self

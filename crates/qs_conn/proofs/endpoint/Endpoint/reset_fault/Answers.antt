@@ -1,8 +1,7 @@
-use Rattle.std.proofs.Common.{◌≤◌, Bool, false, cond, sym, subst}
-use Rattle.std.specs.Prelude.{Result, Ok, Err, IfOk}
+use Rattle.std.proofs.Common.{◌≤◌, Bool, false, cond, rules}
+use Rattle.std.specs.Prelude.{Ok, Err, IfOk}
 use Rattle.qs_ranges.specs.Numbers.{MAX_VARINT}
 use Rattle.qs_recv.specs.declared.half.Highest.{Highest}
-use Rattle.qs_recv.specs.declared.half.RecvFault.{RecvFault}
 use Rattle.qs_recv.specs.declared.half.RecvFault.TheVariants.{FinalSize, StreamCredit}
 use Rattle.qs_conn.proofs.endpoint.Endpoint.reset_fault.Goals as goal
 
@@ -12,7 +11,7 @@ in_range false false h fits = fits
 in_range _ _ _ _ = tt
 
 pub credit_fault-requires : goal.credit_fault-requires
-credit_fault-requires c = subst (λ (r : Result Highest RecvFault). IfOk r (λ (k : Highest). k.after ≤ MAX_VARINT)) (sym c.check_first_reset.ensures) (in_range _ _ _ c.requires)
+credit_fault-requires c = search (rules, in_range)
 
 pub credit_fault-requires-2 : goal.credit_fault-requires-2
-credit_fault-requires-2 c = subst (λ (r : Result Highest RecvFault). IfOk r (λ (k : Highest). k.after ≤ MAX_VARINT)) (sym c.check_reset.ensures) (in_range _ _ _ c.requires)
+credit_fault-requires-2 c = search (rules, in_range)

@@ -10,12 +10,10 @@ use Rattle.qs_machine.specs.Standing.{KeepsCredit}
 use Rattle.qs_machine.proofs.TableLaws.{total_each}
 use Rattle.qs_machine.proofs.CallsSound.{keeps_settle}
 use Rattle.qs_machine.proofs.Rising.{next_limit_grows}
-use Rattle.qs_conn.proofs.Cores.{kept_next}
-use Rattle.qs_conn.proofs.Counted.{fit_settled}
+use Rattle.qs_conn.proofs.Cores.{kept_next, fit_settled}
 use Rattle.qs_conn.specs.Filling.{present_of}
 use Rattle.qs_conn.specs.Untold.{TellsAt}
-use Rattle.qs_conn.proofs.CarriedSteps.{carried_raised}
-use Rattle.qs_conn.proofs.Owns.{own_risen}
+use Rattle.qs_conn.proofs.Carrieds.{carried_raised, own_risen}
 use Rattle.qs_conn.proofs.Untolds.{told_each}
 use Rattle.qs_calls.specs.declared.settings.Settings.{Settings}
 use Rattle.qs_calls.specs.declared.settings.Tuning.{Tuning}
@@ -24,7 +22,7 @@ use Rattle.qs_machine.proofs.Again.{next_twice}
 use Rattle.qs_conn.specs.declared.by_dir.ByDir.{ByDir}
 use Rattle.qs_conn.specs.Ended.{AreAllCounted}
 use Rattle.qs_conn.specs.Settled.{AreNext}
-use Rattle.qs_conn.proofs.Settling.{raised_once}
+use Rattle.qs_conn.proofs.LaneEdits.{raised_once}
 use Rattle.qs_conn.proofs.endpoint.Endpoint.settle.Goals as goal
 
 -- As a call ends

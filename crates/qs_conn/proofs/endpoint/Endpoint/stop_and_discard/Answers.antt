@@ -1,4 +1,4 @@
-use Rattle.qs_conn.proofs.Counting.{may_recount}
+use Rattle.qs_conn.proofs.MadePackets.{may_recount}
 use Rattle.qs_conn.proofs.Cores.{kept_moved, rest_forgotten}
 use Rattle.qs_conn.proofs.endpoint.Endpoint.stop_and_discard.Goals as goal
 

@@ -6,7 +6,7 @@ use Rattle.qs_calls.specs.declared.token.Taken.{Taken}
 use Rattle.qs_calls.specs.declared.token.TakeFault.{TakeFault}
 use Rattle.qs_machine.specs.Ends.{End}
 use Rattle.qs_machine.specs.Alone.{after_one, TakesEach}
-use Rattle.qs_conn.proofs.Alones.{one_more, one_passed, one_stops, none_left}
+use Rattle.qs_conn.proofs.Asked.{one_more, one_passed, one_stops, none_left}
 use Rattle.qs_conn.proofs.endpoint.Endpoint.take_each.Goals as goal
 use Rattle.qs_conn.proofs.endpoint.Endpoint.take_each.Goals.{then-is_ours+in_ok-take_one, else-is_ours}
 

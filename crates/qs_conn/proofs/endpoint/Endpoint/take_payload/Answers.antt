@@ -1,6 +1,6 @@
 use Rattle.std.proofs.Common.{sym, ◌∙◌}
 use Rattle.qs_wire.specs.Reading.{view_placed}
-use Rattle.qs_conn.proofs.TurnsTold.{takes_on, full_on, within_on, turns_on, turns_stop, stops_within}
+use Rattle.qs_conn.proofs.Asked.{takes_on, full_on, within_on, turns_on, turns_stop, stops_within}
 use Rattle.qs_machine.specs.Seen.{seen}
 use Rattle.qs_wire.specs.Layout.{view}
 use Rattle.qs_conn.proofs.endpoint.Endpoint.take_payload.Goals as goal
@@ -32,7 +32,7 @@ returns-in-Ends-clause-told g c =
 pub loop-placed-preserved : goal.loop-placed-preserved
 loop-placed-preserved g c =
     let p = view_placed c.in-Ok-Some.placed in
-    let is = sym c.in_default.ensures.other ∙ (rw c.in-Ok-Some.field-0-is at c.in-Ok-Some.ensures.step) in
+    let is = sym c.in_default.ensures.same ∙ (rw c.in-Ok-Some.field-0-is at c.in-Ok-Some.ensures.step) in
     let from = c.loop-placed.self in
     let to = c.take_placed-in-Ok-Some.new.self in
     let step = c.in-GoesOn-take_placed.ensures.step in
@@ -46,7 +46,7 @@ loop-placed-preserved g c =
 pub returns-in-Ends-take_placed-clause-told : goal.returns-in-Ends-take_placed-clause-told
 returns-in-Ends-take_placed-clause-told g c =
     let p = view_placed c.in-Ok-Some.placed in
-    let is = sym c.in_default.ensures.other ∙ (rw c.in-Ok-Some.field-0-is at c.in-Ok-Some.ensures.step) in
+    let is = sym c.in_default.ensures.same ∙ (rw c.in-Ok-Some.field-0-is at c.in-Ok-Some.ensures.step) in
     let to = c.take_placed-in-Ok-Some.new.self in
     c.loop-placed.invariant.told to c.take_placed-in-Ok-Some.new.told (stops_within p (seen (view c.in-Ok-Some.placed.frame)) c.loop-placed.self c.in-Ends-take_placed.result to c.loop-placed.invariant.full c.in-Ends-take_placed.ensures.step)
     (turns_stop g.T.Told.tells p c.loop-placed.frames c.next.new.self c.loop-placed.self to c.in-Ends-take_placed.result c.loop-placed.told c.take_placed-in-Ok-Some.new.told is c.in-Ends-take_placed.ensures.step c.loop-placed.invariant.full

@@ -4,8 +4,7 @@ use Rattle.qs_wire.specs.Layout.{view}
 use Rattle.qs_wire.specs.Reading.{view_placed}
 use Rattle.qs_machine.specs.Seen.{seen}
 use Rattle.qs_machine.specs.Verdicts.{verdict}
-use Rattle.qs_conn.proofs.Refusals.{is_refused}
-use Rattle.qs_conn.proofs.TurnsTold.{closed_tells}
+use Rattle.qs_conn.proofs.Asked.{is_refused, closed_tells}
 use Rattle.qs_conn.proofs.endpoint.Endpoint.take_placed.Goals as goal
 
 pub returns-in-Some : goal.returns-in-Some

@@ -2,7 +2,7 @@ use Rattle.std.proofs.Common.{sym, subst, ◌∙◌, arith}
 use Rattle.qs_machine.specs.Outgoing.{Outgoing}
 use Rattle.qs_conn.specs.Middle.{IsKept}
 use Rattle.qs_conn.proofs.Cores.{kept_outbox, rest_written, none_written}
-use Rattle.qs_conn.proofs.Within.{write_short}
+use Rattle.qs_conn.proofs.Hearing.{write_short}
 use Rattle.qs_conn.proofs.endpoint.Endpoint.write.Goals as goal
 
 pub invariant_of-self : goal.invariant_of-self

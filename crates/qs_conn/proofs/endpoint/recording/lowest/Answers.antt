@@ -3,7 +3,7 @@ use Rattle.std.specs.List.{list_any}
 use Rattle.std.specs.Ordering.{nat_cmp, eq_by_cmp}
 use Rattle.std.specs.Cmp.{unsigned_tied}
 use Rattle.std.proofs.lemmas.Bool.{both_ways, or_left, eq-eqb}
-use Rattle.qs_ranges.proofs.Algebra.{has_empty}
+use Rattle.qs_ranges.proofs.Sets.{has_empty}
 use Rattle.std.specs.FinSet as set
 use Rattle.qs_ranges.specs.Numbers.{NumberSet}
 use Rattle.qs_machine.specs.Recording.{least_in}

@@ -1,7 +1,7 @@
 use Rattle.std.proofs.Common.{refl, sym, ◌∙◌, arith}
 use Rattle.qs_calls.specs.declared.news.News.TheVariants.{Opened, Readable, Writable, Stopped, Ended, Available}
 use Rattle.qs_conn.specs.contracts.heard.Heard.{the_view}
-use Rattle.qs_conn.proofs.FirstNews.{Freed, none_below, first_of, first_sent, dir_here, dir_least, dir_none, first_later}
+use Rattle.qs_conn.proofs.Hearing.{Freed, none_below, first_of, first_sent, dir_here, dir_least, dir_none, first_later}
 use Rattle.qs_conn.proofs.heard.Heard.first.Goals as goal
 
 pub returns-in-Some : goal.returns-in-Some

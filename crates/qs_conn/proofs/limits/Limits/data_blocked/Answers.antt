@@ -1,6 +1,6 @@
 use Rattle.std.proofs.Common.{refl, sym, ◌∙◌}
 use Rattle.qs_conn.specs.Filling.{end_by}
-use Rattle.qs_conn.proofs.Slots.{data_blocked_there}
+use Rattle.qs_conn.proofs.Untolds.{data_blocked_there}
 use Rattle.qs_conn.proofs.limits.Limits.data_blocked.Goals as goal
 
 pub returns-then-any_wants_more-clause-current : goal.returns-then-any_wants_more-clause-current

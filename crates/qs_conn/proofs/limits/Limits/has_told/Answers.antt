@@ -3,7 +3,7 @@ use Rattle.std.proofs.lemmas.Bool.{not_from_true}
 use Rattle.qs_conn.specs.declared.slot.Slot.TheVariants as slots
 use Rattle.qs_conn.specs.Filling.{end_by, IsCurrentIn}
 use Rattle.qs_conn.proofs.limits.Limits.has_told.Goals as goal
-use Rattle.qs_conn.proofs.Openings.{none_is}
+use Rattle.qs_conn.proofs.Outboxes.{none_is}
 use Rattle.qs_conn.proofs.Untolds.{idle_none}
 
 pub returns-in-MaxData : goal.returns-in-MaxData

@@ -1,6 +1,6 @@
 use Rattle.std.proofs.Common.{◌<◌, sym, ◌∙◌, subst}
 use Rattle.qs_conn.specs.Filling.{end_by}
-use Rattle.qs_conn.proofs.Slots.{max_stream_data_there}
+use Rattle.qs_conn.proofs.Untolds.{max_stream_data_there}
 use Rattle.qs_conn.proofs.limits.Limits.max_stream_data.Goals as goal
 
 pub returns-in-Some-clause-current : goal.returns-in-Some-clause-current

@@ -1,5 +1,5 @@
 use Rattle.std.proofs.Common.{arith}
-use Rattle.qs_conn.specs.Marks.{both, untold}
+use Rattle.qs_conn.specs.Marks.{both}
 use Rattle.qs_conn.proofs.Boths.{both_len, untold_len, summed_both, summed_untold}
 use Rattle.qs_conn.proofs.marks.Marks.least_untold.Goals as goal
 

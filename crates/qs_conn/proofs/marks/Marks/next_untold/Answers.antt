@@ -1,5 +1,5 @@
 use Rattle.std.proofs.Common.{◌+◌, arith}
-use Rattle.qs_conn.proofs.Firsts.{none_left, none_past, left_from}
+use Rattle.qs_conn.proofs.Marked.{none_left, none_past_first as none_past, left_from}
 use Rattle.qs_conn.proofs.marks.Marks.next_untold.Goals as goal
 
 pub returns-in_err-first : goal.returns-in_err-first

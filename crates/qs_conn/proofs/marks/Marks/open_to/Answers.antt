@@ -1,5 +1,5 @@
 use Rattle.std.proofs.Common.{◌+◌, arith}
-use Rattle.qs_conn.proofs.Firsts.{summed_open, next_open, unmarked_opened}
+use Rattle.qs_conn.proofs.Marked.{summed_open, next_open, unmarked_opened}
 use Rattle.qs_conn.proofs.marks.Marks.open_to.Goals as goal
 
 pub invariant_of-self-2 : goal.invariant_of-self-2

@@ -1,8 +1,7 @@
-use Rattle.std.proofs.Common.{not, ◌==◌, ◌+◌, sym, ◌∙◌, false, arith}
-use Rattle.std.proofs.lemmas.Bool.{eqb-true, true≢false}
-use Rattle.qs_conn.proofs.Words.{none_in}
+use Rattle.std.proofs.Common.{not, ◌==◌, ◌+◌, false, arith}
+use Rattle.std.proofs.lemmas.Bool.{eqb-true}
+use Rattle.qs_conn.proofs.Marked.{none_in, summed_set, next_cleared, unmarked_set}
 use Rattle.qs_conn.proofs.Boths.{not_false}
-use Rattle.qs_conn.proofs.Firsts.{summed_set, next_cleared, unmarked_set}
 use Rattle.qs_conn.proofs.marks.Marks.turn_off.Goals as goal
 
 pub invariant_of-self-else-eq : goal.invariant_of-self-else-eq

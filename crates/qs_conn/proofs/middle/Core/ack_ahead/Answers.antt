@@ -1,10 +1,8 @@
 use Rattle.std.proofs.Common.{Ok, Err, rules}
 use Rattle.qs_ranges.specs.declared.NoMemory.{NoMemory}
 use Rattle.qs_conn.specs.Runs.{AcksAhead}
-use Rattle.qs_conn.proofs.AckRuns.{ahead_stop, goes_below, pass_end}
+use Rattle.qs_conn.proofs.AckRuns.{ahead_stop, goes_below, pass_end, less_self, less_on, less_packet, tells_end, asks_stop, from_ahead, from_less, from_le, from_told}
 use Rattle.qs_conn.proofs.Cores.{streams_on}
-use Rattle.qs_conn.proofs.NewlyTold.{less_self, less_on, less_packet, tells_end, asks_stop}
-use Rattle.qs_conn.proofs.RowAcks.{from_ahead, from_less, from_le, from_told}
 use Rattle.qs_conn.proofs.middle.Core.ack_ahead.Goals as goal
 
 pub loop-number-preserved : goal.loop-number-preserved

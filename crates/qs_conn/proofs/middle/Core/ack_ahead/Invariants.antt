@@ -4,7 +4,7 @@ use Rattle.qs_machine.specs.Outgoing.{Outgoing}
 use Rattle.qs_conn.specs.Middle.{IsAtRest, KeepsStreams}
 use Rattle.qs_conn.specs.NewlyTold.{TellsAhead}
 use Rattle.qs_conn.specs.Runs.{AcksAhead}
-use Rattle.qs_conn.proofs.NewlyTold.{IsLess}
+use Rattle.qs_conn.proofs.AckRuns.{IsLess}
 use Rattle.qs_conn.proofs.middle.Core.ack_ahead.Given as goal
 
 -- What is so of what the pass has ahead is so of all.

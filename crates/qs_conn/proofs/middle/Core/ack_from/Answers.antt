@@ -1,5 +1,5 @@
 use Rattle.std.proofs.Common.{arith}
-use Rattle.qs_conn.proofs.RowAcks.{from_row, row_err}
+use Rattle.qs_conn.proofs.AckRuns.{from_row, row_err}
 use Rattle.qs_conn.proofs.middle.Core.ack_from.Goals as goal
 
 pub returns-in_err-ack_row-clause-err : goal.returns-in_err-ack_row-clause-err

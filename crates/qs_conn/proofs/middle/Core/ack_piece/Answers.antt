@@ -1,10 +1,8 @@
 use Rattle.std.proofs.Common.{sym, ◌∙◌, refl}
 use Rattle.qs_conn.specs.Middle.{IsAtRest}
-use Rattle.qs_conn.proofs.CarriedSteps.{same_data}
-use Rattle.qs_conn.proofs.Counting.{may_recount}
-use Rattle.qs_conn.proofs.Counted.{piece_recounted}
-use Rattle.qs_conn.proofs.Cores.{rest_acked, rest_acked_by, rest_marked, rest_unmarked}
-use Rattle.qs_conn.proofs.Owns.{own_data}
+use Rattle.qs_conn.proofs.Carrieds.{same_data, own_data}
+use Rattle.qs_conn.proofs.MadePackets.{may_recount}
+use Rattle.qs_conn.proofs.Cores.{piece_recounted, rest_acked, rest_acked_by, rest_marked, rest_unmarked}
 use Rattle.qs_conn.proofs.middle.Core.ack_piece.Goals as goal
 
 pub returns-in-Data-clause-rest : goal.returns-in-Data-clause-rest

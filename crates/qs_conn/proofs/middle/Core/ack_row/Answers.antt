@@ -2,8 +2,8 @@ use Rattle.std.proofs.Common.{sym, subst}
 use Rattle.qs_send.specs.Lane.{acked_lane}
 use Rattle.qs_machine.specs.Outgoing.{Outgoing}
 use Rattle.qs_conn.specs.Middle.{IsAtRest}
-use Rattle.qs_conn.proofs.Counting.{may_recount, send_recounted}
-use Rattle.qs_conn.proofs.RowAcks.{rest_rowed}
+use Rattle.qs_conn.proofs.MadePackets.{may_recount, send_recounted}
+use Rattle.qs_conn.proofs.AckRuns.{rest_rowed}
 use Rattle.qs_conn.proofs.middle.Core.ack_row.Goals as goal
 
 pub returns-clause-rest : goal.returns-clause-rest

@@ -1,4 +1,4 @@
-use Rattle.std.proofs.Common.{◌≡◌, ◌≤◌, ◌-◌, [], arith, inl, inr, sym, ap, subst, ◌∙◌, take, length, false, refl}
+use Rattle.std.proofs.Common.{◌≡◌, ◌≤◌, ◌-◌, [], arith, inl, inr, sym, ap, subst, ◌∙◌, take, length, false, refl, rules}
 use Rattle.std.proofs.lemmas.Bool.{cases_Bool}
 use Rattle.qs_machine.specs.Ends.{End}
 use Rattle.qs_machine.specs.Credit.{all_sent}
@@ -7,14 +7,14 @@ use Rattle.qs_conn.specs.Middle.{FillsOn, end_of}
 use Rattle.qs_conn.specs.Filling.{no_slot, IsPassed, Begun, Flowing, Flow, turn_at}
 use Rattle.qs_conn.proofs.Cores.{streams_same, fills_on}
 use Rattle.qs_conn.proofs.Flows.{flow_first, flow_bare, unwished}
-use Rattle.qs_conn.proofs.Stills.{memory_less, memory_on}
+use Rattle.qs_conn.proofs.MadePackets.{memory_less, memory_on}
 use Rattle.qs_conn.proofs.middle.Core.fill.Goals as goal
 
 pub put_items-packet-requires-clause-filling : goal.put_items-packet-requires-clause-filling
-put_items-packet-requires-clause-filling c = record { core = c.requires.filling.core; within = c.put_ack_if-len.ensures.within }
+put_items-packet-requires-clause-filling c = search (rules)
 
 pub put_items-packet-requires-clause-memory : goal.put_items-packet-requires-clause-memory
-put_items-packet-requires-clause-memory c = memory_on _ _ 0 _ _ 6 c.put_ack_if-len.ensures.room (omega arith) c.requires.memory
+put_items-packet-requires-clause-memory c = search (rules, memory_on)
 
 pub put_streams-requires-clause-memory : goal.put_streams-requires-clause-memory
 put_streams-requires-clause-memory c = c.put_items-packet.ensures.filled.memory 6 (memory_on _ _ 0 _ _ 6 c.put_ack_if-len.ensures.room (omega arith) c.requires.memory)

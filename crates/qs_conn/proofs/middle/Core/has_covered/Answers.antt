@@ -1,8 +1,7 @@
 use Rattle.std.proofs.Common.{ap}
 use Rattle.qs_machine.specs.Ends.{End}
 use Rattle.qs_conn.specs.Filling.{slot_of}
-use Rattle.qs_conn.proofs.CarriedSteps.{stop_covered, limit_covered, reset_covered, block_covered}
-use Rattle.qs_conn.proofs.Owns.{own_none, own_covered, own_uncovered}
+use Rattle.qs_conn.proofs.Carrieds.{stop_covered, limit_covered, reset_covered, block_covered, own_none, own_covered, own_uncovered}
 use Rattle.qs_conn.proofs.middle.Core.has_covered.Goals as goal
 
 pub returns-in-ResetStream : goal.returns-in-ResetStream

@@ -1,16 +1,12 @@
-use Rattle.std.proofs.Common.{◌+◌, arith}
+use Rattle.std.proofs.Common.{◌+◌, arith, rules}
 use Rattle.qs_conn.specs.Middle.{end_of}
 use Rattle.qs_conn.specs.Filling.{and_slot, and_kind, and_below}
-use Rattle.qs_conn.proofs.Passing.{adds_first, adds_below, adds_kind, adds_next}
-use Rattle.qs_conn.proofs.Sendables.{tells_found, tells_more}
+use Rattle.qs_conn.proofs.Stages.{adds_first, adds_below, adds_kind, adds_next}
+use Rattle.qs_conn.proofs.MadePackets.{tells_found, tells_more}
 use Rattle.qs_conn.proofs.middle.Core.has_marked.Goals as goal
 
 pub loop-stream-init : goal.loop-stream-init
-loop-stream-init c =
-    record {
-      small = omega arith;
-      due = λ e passed. tells_more (end_of c.args.self.now e) c.args.is_found passed (and_below passed c.args.kind 0) (adds_first _ passed c.args.kind);
-    }
+loop-stream-init c = search (rules, tells_more, adds_first)
 
 pub loop-stream-preserved : goal.loop-stream-preserved
 loop-stream-preserved c =
@@ -25,11 +21,7 @@ loop-stream-preserved c =
     }
 
 pub returns-then-is_found : goal.returns-then-is_found
-returns-then-is_found c = λ e passed before.
-    let there = end_of c.args.self.now e in
-    let below = and_below passed c.args.kind c.in-Some.stream in
-    let here = tells_more there c.loop-stream.is_found (and_below passed c.args.kind c.loop-stream.from) below (adds_below there passed c.args.kind c.loop-stream.from c.in-Some.stream (λ n. c.in-Some.ensures.idle n e)) (c.loop-stream.invariant.due e passed before) in
-    tells_found there c.has_slot-is_found.result (and_slot below c.at.result) (and_kind passed c.args.kind) c.if-is_found.true (c.has_slot-is_found.ensures e below here)
+returns-then-is_found c = search (rules, tells_more, adds_below, tells_found)
 
 pub returns : goal.returns
 returns c = λ e passed before.

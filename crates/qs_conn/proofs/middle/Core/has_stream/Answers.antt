@@ -2,8 +2,8 @@ use Rattle.std.proofs.Common.{arith, inl, inr}
 use Rattle.std.proofs.lemmas.Bool.{cases_lt}
 use Rattle.qs_conn.specs.Middle.{end_of}
 use Rattle.qs_machine.specs.Due.{StreamGoes}
-use Rattle.qs_conn.proofs.Least.{none_next}
-use Rattle.qs_conn.proofs.Sendables.{tells_yes, tells_no}
+use Rattle.qs_conn.proofs.Marked.{none_next}
+use Rattle.qs_conn.proofs.MadePackets.{tells_yes, tells_no}
 use Rattle.qs_conn.proofs.middle.Core.has_stream.Goals as goal
 
 pub loop-stream-preserved : goal.loop-stream-preserved

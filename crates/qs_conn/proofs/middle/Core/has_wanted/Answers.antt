@@ -1,6 +1,6 @@
 use Rattle.std.proofs.Common.{true, arith, inr}
 use Rattle.qs_conn.specs.Middle.{end_of}
-use Rattle.qs_conn.proofs.Sendables.{tells_yes, tells_or, wanted_capped, wanted_left}
+use Rattle.qs_conn.proofs.MadePackets.{tells_yes, tells_or, wanted_capped, wanted_left}
 use Rattle.qs_conn.proofs.middle.Core.has_wanted.Goals as goal
 
 pub returns-then-left-eq0 : goal.returns-then-left-eq0

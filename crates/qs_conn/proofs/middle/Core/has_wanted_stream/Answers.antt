@@ -2,7 +2,7 @@ use Rattle.std.proofs.Common.{◌∙◌, sym, subst, inl, inr, refl}
 use Rattle.std.proofs.lemmas.Bool.{true≢false}
 use Rattle.qs_machine.specs.Due.{StreamGoes}
 use Rattle.qs_conn.specs.Middle.{end_of}
-use Rattle.qs_conn.proofs.Sendables.{tells_yes, tells_same}
+use Rattle.qs_conn.proofs.MadePackets.{tells_yes, tells_same}
 use Rattle.qs_conn.proofs.middle.Core.has_wanted_stream.Goals as goal
 
 pub returns-then-not-want : goal.returns-then-not-want

@@ -1,5 +1,5 @@
 use Rattle.std.proofs.Common.{◌≡◌, false, arith}
-use Rattle.qs_conn.proofs.Stills.{still_unmarked}
+use Rattle.qs_conn.proofs.MadePackets.{still_unmarked}
 use Rattle.qs_conn.proofs.middle.Core.is_still.Goals as goal
 
 pub returns : goal.returns

@@ -2,7 +2,7 @@ use Rattle.std.proofs.Common.{refl, Err, rules, sym, ◌∙◌}
 use Rattle.qs_ranges.specs.declared.NoMemory.{NoMemory}
 use Rattle.qs_conn.specs.Runs.{Loses}
 use Rattle.qs_conn.proofs.Cores.{rest_lost, rest_marked}
-use Rattle.qs_conn.proofs.Runs.{loses_stop, loses_more}
+use Rattle.qs_conn.proofs.AckRuns.{loses_stop, loses_more}
 use Rattle.qs_conn.proofs.middle.Core.lose_pieces.Goals as goal
 
 pub loop-piece-preserved : goal.loop-piece-preserved

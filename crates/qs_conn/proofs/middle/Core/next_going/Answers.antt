@@ -1,5 +1,5 @@
 use Rattle.std.proofs.Common.{arith}
-use Rattle.qs_conn.proofs.Quiets.{no_goes, no_goes_again}
+use Rattle.qs_conn.proofs.Hearing.{no_goes, no_goes_again}
 use Rattle.qs_conn.proofs.middle.Core.next_going.Goals as goal
 
 pub returns-then-sent_sum-self-clause-none : goal.returns-then-sent_sum-self-clause-none

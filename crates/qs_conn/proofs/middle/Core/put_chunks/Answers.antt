@@ -9,11 +9,10 @@ use Rattle.qs_conn.specs.declared.middle.Core.{Core}
 use Rattle.qs_conn.specs.Filling.{end_by, HasSpare, LeavesRest}
 use Rattle.qs_conn.specs.Middle.{FillsOn}
 use Rattle.qs_conn.specs.Untold.{HasMore}
-use Rattle.qs_conn.proofs.Chunks.{Allowed, found_allowed}
+use Rattle.qs_conn.proofs.Flows.{Allowed, found_allowed, chunking_begins, chunking_put, chunking_done, may_go, sum_within, sum_small, still_open, flow_few, flow_ends, cut_part, flow_capped, flow_cut}
 use Rattle.qs_conn.proofs.Cores.{core_chunk, fills_same, fills_on, fills_outbox}
-use Rattle.qs_conn.proofs.Flows.{chunking_begins, chunking_put, chunking_done, may_go, sum_within, sum_small, still_open, flow_few, flow_ends, cut_part, flow_capped, flow_cut}
-use Rattle.qs_conn.proofs.Quiets.{no_goes, done_quiet, not_blocked}
-use Rattle.qs_conn.proofs.Stills.{chunk_spare, chunk_memory}
+use Rattle.qs_conn.proofs.Hearing.{no_goes, done_quiet, not_blocked}
+use Rattle.qs_conn.proofs.MadePackets.{chunk_spare, chunk_memory}
 use Rattle.qs_conn.proofs.middle.Core.put_chunks.Goals as goal
 
 -- a chunk went in, behind what was there before

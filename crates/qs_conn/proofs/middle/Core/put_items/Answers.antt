@@ -4,9 +4,8 @@ use Rattle.qs_wire.specs.declared.stream_id.Dir.TheVariants.{Bidi, Uni}
 use Rattle.qs_conn.specs.declared.slot.Slot.TheVariants as slots
 use Rattle.qs_conn.specs.declared.slot.Kind.TheVariants as kinds
 use Rattle.qs_conn.specs.Filling.{Passed, no_slot, and_slot, and_kind, HasPassedKinds}
-use Rattle.qs_conn.proofs.Passing.{kinds_kind, kinds_blocked, passed_first, passed_second}
-use Rattle.qs_conn.proofs.Cores.{fills_on}
-use Rattle.qs_conn.proofs.Cores.{memory_step, memory_six}
+use Rattle.qs_conn.proofs.Stages.{kinds_kind, kinds_blocked, passed_first, passed_second}
+use Rattle.qs_conn.proofs.Cores.{fills_on, memory_step, memory_six}
 use Rattle.qs_conn.proofs.middle.Core.put_items.Goals as goal
 
 pub returns-clause-stage : goal.returns-clause-stage
@@ -50,7 +49,7 @@ returns-clause-stage c = λ room old e asked at start.
     c.put_own_slot.ensures.stage wish room old e p9 at9 (passed_second p8 k7) s9
 
 pub returns-then-not-wish-clause-stage : goal.returns-then-not-wish-clause-stage
-returns-then-not-wish-clause-stage c = λ room old e asked at start. absurd (true≢false (sym asked ∙ c.if-not-wish.true))
+returns-then-not-wish-clause-stage c = λ room old e asked at start. search (rules, true≢false)
 
 pub returns-clause-passed : goal.returns-clause-passed
 returns-clause-passed c = λ none. absurd (true≢false (sym c.if-not-wish.false ∙ none))
@@ -68,16 +67,16 @@ returns-clause-filled c =
     fills_on _ _ _ _ _ _ _ _ _ _ _ f8 c.put_own_slot.ensures.filled
 
 pub put_own_slot-packet-requires-clause-memory : goal.put_own_slot-packet-requires-clause-memory
-put_own_slot-packet-requires-clause-memory c = search (rules, memory_step, memory_six, c.requires.memory) depth 14
+put_own_slot-packet-requires-clause-memory c = search (rules, memory_step, memory_six)
 
 pub put_own_slot-packet-requires-2-clause-memory : goal.put_own_slot-packet-requires-2-clause-memory
-put_own_slot-packet-requires-2-clause-memory c = search (rules, memory_step, memory_six, c.requires.memory) depth 14
+put_own_slot-packet-requires-2-clause-memory c = search (rules, memory_step, memory_six)
 
 pub put_own_slot-packet-requires-3-clause-memory : goal.put_own_slot-packet-requires-3-clause-memory
-put_own_slot-packet-requires-3-clause-memory c = search (rules, memory_step, memory_six, c.requires.memory) depth 14
+put_own_slot-packet-requires-3-clause-memory c = search (rules, memory_step, memory_six)
 
 pub put_kind-packet-requires-clause-memory : goal.put_kind-packet-requires-clause-memory
-put_kind-packet-requires-clause-memory c = search (rules, memory_step, memory_six, c.requires.memory) depth 14
+put_kind-packet-requires-clause-memory c = search (rules, memory_step, memory_six)
 
 pub put_kind-packet-requires-2-clause-memory : goal.put_kind-packet-requires-2-clause-memory
 put_kind-packet-requires-2-clause-memory c = search (rules, memory_step, memory_six, c.requires.memory) depth 14

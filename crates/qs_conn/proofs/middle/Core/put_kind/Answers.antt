@@ -1,8 +1,8 @@
 use Rattle.std.proofs.Common.{take}
 use Rattle.qs_conn.specs.Middle.{end_of}
 use Rattle.qs_conn.specs.Filling.{and_kind}
-use Rattle.qs_conn.proofs.Passing.{adds_none}
-use Rattle.qs_conn.proofs.Putting.{stage_more}
+use Rattle.qs_conn.proofs.Stages.{adds_none}
+use Rattle.qs_conn.proofs.MadePackets.{stage_more}
 use Rattle.qs_conn.proofs.middle.Core.put_kind.Goals as goal
 
 pub returns-clause-stage : goal.returns-clause-stage

@@ -1,20 +1,13 @@
-use Rattle.std.proofs.Common.{◌≡◌, ◌+◌, ◌∙◌, arith, sym, ap, subst, length, take}
-use Rattle.qs_conn.specs.declared.middle.Core.{Core}
+use Rattle.std.proofs.Common.{◌≡◌, ◌+◌, ◌∙◌, arith, sym, ap, subst, length, take, rules}
 use Rattle.qs_conn.specs.Middle.{HasMemory, own_items, end_of}
 use Rattle.qs_conn.specs.Filling.{and_slot, and_kind, and_below}
 use Rattle.qs_conn.proofs.Cores.{fills_same, fills_on, fills_within, fills_marks}
-use Rattle.qs_conn.proofs.Passing.{passed_below, adds_first, adds_below, adds_kind, adds_next}
-use Rattle.qs_conn.proofs.Putting.{stage_more, stage_full}
-use Rattle.qs_conn.proofs.Stills.{own_kind}
+use Rattle.qs_conn.proofs.Stages.{passed_below, adds_first, adds_below, adds_kind, adds_next}
+use Rattle.qs_conn.proofs.MadePackets.{stage_more, stage_full, own_kind}
 use Rattle.qs_conn.proofs.middle.Core.put_marked.Goals as goal
 
 pub loop-stream-init : goal.loop-stream-init
-loop-stream-init c =
-    record {
-      small = omega arith;
-      stage = λ wish room old e passed at kinds. stage_more wish room old (take c.args.packet.len c.args.out.now) (end_of c.args.self.now e) c.args.packet.is_full passed (and_below passed c.args.kind 0) (adds_first _ passed c.args.kind);
-      filled = fills_same c.args.self.now c.args.out.now c.args.packet.len 0 c.requires.filling;
-    }
+loop-stream-init c = search (rules, stage_more, adds_first, fills_same)
 
 pub loop-stream-preserved : goal.loop-stream-preserved
 loop-stream-preserved c =

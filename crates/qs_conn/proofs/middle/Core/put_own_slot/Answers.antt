@@ -2,9 +2,8 @@ use Rattle.std.proofs.Common.{take}
 use Rattle.qs_conn.specs.Middle.{end_of}
 use Rattle.qs_conn.proofs.Cores.{fills_within}
 use Rattle.qs_conn.specs.Filling.{and_slot}
-use Rattle.qs_conn.proofs.Passing.{adds_slot}
-use Rattle.qs_conn.proofs.Putting.{stage_more}
-use Rattle.qs_conn.proofs.Stills.{memory_less, own_most}
+use Rattle.qs_conn.proofs.Stages.{adds_slot}
+use Rattle.qs_conn.proofs.MadePackets.{stage_more, memory_less, own_most}
 use Rattle.qs_conn.proofs.middle.Core.put_own_slot.Goals as goal
 
 pub returns-then-has_told-clause-stage : goal.returns-then-has_told-clause-stage

@@ -2,11 +2,9 @@ use Rattle.std.proofs.Common.{take, inl}
 use Rattle.qs_conn.specs.Middle.{end_of}
 use Rattle.qs_conn.proofs.Cores.{core_item, fills_outbox}
 use Rattle.qs_conn.specs.Filling.{and_slot}
-use Rattle.qs_conn.proofs.Passing.{adds_slot}
-use Rattle.qs_conn.proofs.Putting.{stage_more, stage_put}
-use Rattle.qs_conn.proofs.Slots.{may_tell}
-use Rattle.qs_conn.proofs.Stills.{some_end, item_spare, item_memory, memory_carried}
-use Rattle.qs_conn.proofs.Untolds.{idle_none, idle_covered}
+use Rattle.qs_conn.proofs.Stages.{adds_slot}
+use Rattle.qs_conn.proofs.MadePackets.{stage_more, stage_put, some_end, item_spare, item_memory, memory_carried}
+use Rattle.qs_conn.proofs.Untolds.{may_tell, idle_none, idle_covered}
 use Rattle.qs_conn.proofs.middle.Core.put_slot.Goals as goal
 
 pub returns-in_default-clause-stage : goal.returns-in_default-clause-stage

@@ -1,4 +1,4 @@
-use Rattle.std.proofs.Common.{◌≡◌, ◌∙◌, ◌+◌, sym, subst, refl, inr, arith, true, false, take}
+use Rattle.std.proofs.Common.{◌≡◌, ◌∙◌, ◌+◌, sym, subst, refl, inr, arith, true, false, take, rules}
 use Rattle.qs_machine.specs.Filling.{IsAsked}
 use Rattle.qs_conn.specs.Middle.{end_of}
 use Rattle.qs_conn.specs.Filling.{Flow, turn_at}
@@ -7,9 +7,7 @@ use Rattle.qs_conn.proofs.Flows.{flow_packed, had_none, had_one, had_all, all_as
 use Rattle.qs_conn.proofs.middle.Core.put_streams.Goals as goal
 
 pub returns-then-not-wish-clause-packed : goal.returns-then-not-wish-clause-packed
-returns-then-not-wish-clause-packed c = λ room old e at start.
-    let first = c.args.wish.now.want.first in
-    flow_packed first c.args.wish.now room old _ _ c.args.wish.now.want.most_bytes c.args.packet.is_full false first (had_none c.args.wish.now.want first first c.if-not-wish.true) start
+returns-then-not-wish-clause-packed c = search (rules, flow_packed, had_none)
 
 pub returns-then-wish-clause-packed : goal.returns-then-wish-clause-packed
 returns-then-wish-clause-packed c = λ room old e at start.

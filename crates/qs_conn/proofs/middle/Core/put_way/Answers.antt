@@ -1,24 +1,16 @@
-use Rattle.std.proofs.Common.{◌+◌, ◌∙◌, arith, subst, sym, take}
+use Rattle.std.proofs.Common.{◌+◌, ◌∙◌, arith, subst, sym, take, rules}
 use Rattle.std.proofs.lemmas.Bool.{true≢false}
 use Rattle.qs_conn.specs.Middle.{end_of}
-use Rattle.qs_conn.specs.Filling.{Flow, turn_at, start_of}
+use Rattle.qs_conn.specs.Filling.{Flow, turn_at}
 use Rattle.qs_conn.proofs.Cores.{fills_same, fills_on}
 use Rattle.qs_conn.proofs.Flows.{flow_idle, flow_way, off_way}
 use Rattle.qs_conn.proofs.middle.Core.put_way.Goals as goal
 
 pub returns-then-packet-clause-flow : goal.returns-then-packet-clause-flow
-returns-then-packet-clause-flow c = λ wish room old e all at start.
-    flow_way wish room old (take c.args.packet.len c.args.out.now) (end_of c.args.self.now e) c.args.packet.quota c.args.packet.is_full c.args.around c.args.first (start_of c.args.around c.args.first) (λ open_end. absurd (true≢false (sym c.if-packet.true ∙ open_end))) start
+returns-then-packet-clause-flow c = search (rules, flow_way, true≢false)
 
 pub loop-stream-init : goal.loop-stream-init
-loop-stream-init c =
-    let start = c.way_start-from.ensures.value in
-    record {
-      small = c.way_start-from.ensures.small;
-      begun = omega (arith, start);
-      flow = λ wish room old e all at f. subst (λ n. Flow wish room old (take c.args.packet.len c.args.out.now) (end_of c.args.self.now e) c.args.packet.quota c.args.packet.is_full (turn_at c.args.around c.args.first n)) (sym start) f;
-      filled = fills_same c.args.self.now c.args.out.now c.args.packet.len 0 c.requires.filling;
-    }
+loop-stream-init c = search (rules, fills_same)
 
 pub loop-stream-preserved : goal.loop-stream-preserved
 loop-stream-preserved c =

@@ -1,6 +1,6 @@
 use Rattle.std.proofs.Common.{refl, arith}
-use Rattle.qs_conn.proofs.OutboxMaking.{room_stays}
-use Rattle.qs_conn.proofs.OutboxAcks.{idle_none, first_at, first_in, sent_kept, box_acked, box_late, acked_value, late_value, lost_left, idle_after, stop_asks}
+use Rattle.qs_conn.proofs.Flows.{room_stays}
+use Rattle.qs_conn.proofs.Outboxes.{idle_none, first_at, first_in, sent_kept, box_acked, box_late, acked_value, late_value, lost_left, idle_after, stop_asks}
 use Rattle.qs_machine.proofs.LostSent.{sent_acked, sent_less}
 use Rattle.qs_machine.specs.Sums.{tables_of}
 use Rattle.qs_conn.proofs.outbox.Outbox.ack_kept.Goals as goal

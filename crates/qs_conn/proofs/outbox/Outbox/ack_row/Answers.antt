@@ -2,9 +2,8 @@ use Rattle.std.proofs.Common.{refl, arith}
 use Rattle.qs_machine.specs.Sums.{tables_of}
 use Rattle.qs_machine.proofs.LostSent.{sent_acked}
 use Rattle.qs_send.specs.declared.piece.Piece.TheVariants.{Data}
-use Rattle.qs_conn.proofs.OutboxMaking.{room_stays}
-use Rattle.qs_conn.proofs.OutboxAcks.{idle_none, idle_after, stop_asks, chunk_may}
-use Rattle.qs_conn.proofs.Rows.{row_sent, row_asks, half_there, half_sent, box_rowed, row_acks, row_lanes}
+use Rattle.qs_conn.proofs.Flows.{room_stays}
+use Rattle.qs_conn.proofs.Outboxes.{idle_none, idle_after, stop_asks, chunk_may, row_sent, row_asks, row_half_there as half_there, half_sent, box_rowed, row_acks, row_lanes}
 use Rattle.qs_conn.proofs.outbox.Outbox.ack_row.Goals as goal
 
 pub chunk_acked-requires : goal.chunk_acked-requires

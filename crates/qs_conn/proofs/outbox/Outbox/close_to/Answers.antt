@@ -8,7 +8,7 @@ use Rattle.qs_machine.proofs.LaneTables.{lanes_closed}
 use Rattle.qs_machine.proofs.LostSent.{sent_close}
 use Rattle.qs_conn.specs.Promised.{promised_on}
 use Rattle.qs_conn.proofs.Outboxes.{closed_is, sends_step, box_closed}
-use Rattle.qs_conn.proofs.Promised.{closes_none}
+use Rattle.qs_conn.proofs.Tasks.{closes_none}
 use Rattle.qs_conn.proofs.outbox.Outbox.close_to.Goals as goal
 
 pub close_to-requires-clause-unwritten : goal.close_to-requires-clause-unwritten

@@ -1,5 +1,5 @@
 use Rattle.std.proofs.Common.{◌+◌, nat_lt}
-use Rattle.qs_conn.proofs.OutboxMaking.{box_committed, idle_committed}
+use Rattle.qs_conn.proofs.Flows.{box_committed, idle_committed}
 use Rattle.qs_conn.proofs.outbox.Outbox.commit.Goals as goal
 
 pub invariant_of-self : goal.invariant_of-self

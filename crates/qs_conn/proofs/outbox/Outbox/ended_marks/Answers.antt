@@ -11,7 +11,7 @@ use Rattle.qs_conn.specs.Sending.{HasSent}
 use Rattle.qs_conn.specs.Tasks.{IsQuiet}
 use Rattle.qs_conn.specs.declared.send_marks.Task.TheVariants as tasks
 use Rattle.qs_conn.proofs.Marked.{unmarked_at}
-use Rattle.qs_conn.proofs.Sought.{half_of_lane}
+use Rattle.qs_conn.proofs.Hearing.{half_of_lane}
 use Rattle.qs_conn.proofs.outbox.Outbox.ended_marks.Goals as goal
 
 send_ends_marked : (ls : List (List Sending)) (k : ℕ) (d : List Sending) (ms : List Bool) → length ls ≡ 4 → AreMarked (IsQuiet tasks.Ended) (get_or ls k d) ms → AreEndsMarked HasSent (lanes_of (tables_of ls)) k ms

@@ -2,7 +2,7 @@ use Rattle.std.proofs.Common.{arith}
 use Rattle.qs_machine.specs.Asking.{kept_on}
 use Rattle.qs_machine.specs.Sums.{tables_of}
 use Rattle.qs_machine.proofs.TableEdits.{total_four}
-use Rattle.qs_conn.proofs.Helds.{total_lanes}
+use Rattle.qs_conn.proofs.Tasks.{total_lanes}
 use Rattle.qs_conn.proofs.outbox.Outbox.kept_sum.Goals as goal
 
 pub returns-then-kept : goal.returns-then-kept

@@ -1,15 +1,12 @@
-use Rattle.std.proofs.Common.{refl, arith}
-use Rattle.qs_conn.proofs.OutboxMaking.{room_stays}
-use Rattle.qs_conn.proofs.OutboxAcks.{idle_none, first_at, tied_at, sent_piece, box_lost, lost_value, lost_added, idle_after}
+use Rattle.std.proofs.Common.{refl, arith, rules}
+use Rattle.qs_conn.proofs.Flows.{room_stays}
+use Rattle.qs_conn.proofs.Outboxes.{idle_none, first_at, tied_at, sent_piece, box_lost, lost_value, lost_added, idle_after}
 use Rattle.qs_machine.proofs.LostSent.{sent_lost}
 use Rattle.qs_machine.specs.Sums.{tables_of}
 use Rattle.qs_conn.proofs.outbox.Outbox.lose_first.Goals as goal
 
 pub piece_lost-requires : goal.piece_lost-requires
-piece_lost-requires c =
-    sent_piece (tables_of c.self.inside.types) c.self.inside.records.pieces c.args.number c.args.piece
-    (tied_at _ _ _ _ _ _ _ _ c.self.invariant.0 (idle_none _ c.args.self.now c.self.inside.records.pieces c.self.inside.pending.items c.self.view_is refl c.requires.idle))
-    (first_at _ c.args.self.now c.self.inside.records.pieces c.self.inside.pending.items c.args.number c.args.piece c.self.view_is refl c.requires.idle c.requires.first)
+piece_lost-requires c = search (rules, sent_piece, tied_at, idle_none, first_at)
 
 pub invariant_of-self-2 : goal.invariant_of-self-2
 invariant_of-self-2 c =

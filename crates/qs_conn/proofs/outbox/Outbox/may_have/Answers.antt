@@ -1,6 +1,6 @@
 use Rattle.std.proofs.Common.{refl}
 use Rattle.qs_machine.specs.Sums.{tables_of}
-use Rattle.qs_conn.proofs.Quiets.{quiet_at}
+use Rattle.qs_conn.proofs.Hearing.{quiet_at}
 use Rattle.qs_conn.proofs.outbox.Outbox.may_have.Goals as goal
 
 pub returns : goal.returns

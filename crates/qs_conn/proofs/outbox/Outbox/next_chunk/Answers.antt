@@ -1,6 +1,6 @@
 use Rattle.std.proofs.Common.{refl}
 use Rattle.qs_conn.proofs.Outboxes.{half_there, sending_is}
-use Rattle.qs_conn.proofs.OutboxMaking.{chunk_found}
+use Rattle.qs_conn.proofs.Flows.{chunk_found}
 use Rattle.qs_machine.specs.Sums.{tables_of}
 use Rattle.qs_conn.proofs.outbox.Outbox.next_chunk.Goals as goal
 

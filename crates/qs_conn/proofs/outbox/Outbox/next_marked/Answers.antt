@@ -1,7 +1,7 @@
-use Rattle.std.proofs.Common.{◌≡◌, false, refl, arith}
+use Rattle.std.proofs.Common.{◌≡◌, false, refl, arith, rules}
 use Rattle.qs_machine.specs.Sums.{tables_of}
 use Rattle.qs_conn.proofs.Outboxes.{some_open}
-use Rattle.qs_conn.proofs.Quiets.{quiet_at, quiet_before, held_from, held_open}
+use Rattle.qs_conn.proofs.Hearing.{quiet_at, quiet_before, held_from, held_open}
 use Rattle.qs_conn.proofs.outbox.Outbox.next_marked.Goals as goal
 
 pub returns-then-not-may_have-clause-quiet : goal.returns-then-not-may_have-clause-quiet
@@ -13,7 +13,7 @@ pub returns-clause-quiet : goal.returns-clause-quiet
 returns-clause-quiet c = λ n le before. quiet_at c.args.task _ c.args.self.now (tables_of c.self.inside.types) n c.self.view_is refl (c.self.invariant.0.tied.lanes n) (quiet_before c.args.task (tables_of c.self.inside.types) c.args.from c.next_with.result c.next_with.ensures n le before)
 
 pub returns-clause-from : goal.returns-clause-from
-returns-clause-from c = held_from c.args.task (tables_of c.self.inside.types) c.args.from c.next_with.result c.next_with.ensures
+returns-clause-from c = search (rules, held_from)
 
 pub returns-clause-open : goal.returns-clause-open
-returns-clause-open c = some_open _ c.args.self.now (tables_of c.self.inside.types) c.next_with.result c.self.view_is refl (held_open c.args.task (tables_of c.self.inside.types) c.args.from c.next_with.result c.next_with.ensures)
+returns-clause-open c = search (rules, some_open, held_open)

@@ -1,6 +1,6 @@
 use Rattle.std.proofs.Common.{refl, ap, is_some}
 use Rattle.std.proofs.lemmas.Option.{none-some}
-use Rattle.qs_conn.proofs.Sought.{due_least, lawful_found}
+use Rattle.qs_conn.proofs.Hearing.{due_least, lawful_found}
 use Rattle.qs_machine.specs.Sums.{tables_of}
 use Rattle.qs_conn.proofs.outbox.Outbox.next_sendable.Goals as goal
 

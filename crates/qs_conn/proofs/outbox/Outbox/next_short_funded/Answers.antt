@@ -2,7 +2,7 @@ use Rattle.std.proofs.Common.{refl, true}
 use Rattle.qs_machine.specs.Sums.{tables_of}
 use Rattle.qs_conn.specs.Sending.{IsFunded}
 use Rattle.qs_conn.specs.declared.send_marks.Task.TheVariants as tasks
-use Rattle.qs_conn.proofs.SoughtTold.{lanes_sought}
+use Rattle.qs_conn.proofs.Hearing.{lanes_sought}
 use Rattle.qs_conn.proofs.outbox.Outbox.next_short_funded.Goals as goal
 
 pub returns : goal.returns

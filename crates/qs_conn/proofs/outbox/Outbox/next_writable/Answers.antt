@@ -2,7 +2,7 @@ use Rattle.std.proofs.Common.{refl}
 use Rattle.qs_conn.specs.Sending.{MayWrite}
 use Rattle.qs_conn.specs.Tasks.{HasTask}
 use Rattle.qs_conn.specs.declared.send_marks.Task.TheVariants as tasks
-use Rattle.qs_conn.proofs.Sought.{lanes_least}
+use Rattle.qs_conn.proofs.Hearing.{lanes_least}
 use Rattle.qs_machine.specs.Sums.{tables_of}
 use Rattle.qs_conn.proofs.outbox.Outbox.next_writable.Goals as goal
 

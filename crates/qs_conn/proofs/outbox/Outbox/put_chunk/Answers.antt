@@ -1,4 +1,4 @@
-use Rattle.std.proofs.Common.{refl, subst, ◌∙◌, arith, ◌≤◌, ℕ}
+use Rattle.std.proofs.Common.{refl, subst, ◌∙◌, arith, ◌≤◌, ℕ, rules}
 use Rattle.std.proofs.lemmas.List.{length-set}
 use Rattle.qs_ranges.specs.Numbers.{MAX_VARINT}
 use Rattle.qs_send.specs.Lane.{Sending, after_sent}
@@ -7,7 +7,7 @@ use Rattle.qs_conn.specs.declared.send_marks.Task.TheVariants as tasks
 use Rattle.qs_machine.specs.Sums.{tables_of}
 use Rattle.qs_machine.proofs.TableEdits.{open_there, updated_is}
 use Rattle.qs_conn.proofs.Outboxes.{half_there, known}
-use Rattle.qs_conn.proofs.OutboxMaking.{same_sending, open_half, due_half, sum_now, chunk_sum, box_chunk, chunk_value}
+use Rattle.qs_conn.proofs.Flows.{same_sending, open_half, due_half, sum_now, made_chunk_sum as chunk_sum, box_chunk, chunk_value}
 use Rattle.qs_machine.proofs.LostSent.{sent_put}
 use Rattle.qs_conn.proofs.outbox.Outbox.put_chunk.Goals as goal
 
@@ -21,13 +21,7 @@ pub sent-sent-requires-clause-due : goal.sent-sent-requires-clause-due
 sent-sent-requires-clause-due c = let half = known _ c.args.self.now c.self.inside.types c.args.stream _ _ _ c.self.view_is refl c.self.invariant.2 c.type_of.ensures.value c.index_of-index.ensures.value (open_half c.args.self.now c.args.stream c.args.chunk c.requires.due) c.learn_lawful.ensures (c.self.invariant.0.tied.lanes c.args.stream) in due_half c.args.self.now c.args.stream _ c.args.chunk c.requires.due half.has
 
 pub overflow_add-self : goal.overflow_add-self
-overflow_add-self c =
-    let types = tables_of c.self.inside.types in
-    let is = updated_is c.self.inside.types c.args.stream _ _ _ _ (λ s. after_sent s c.args.chunk) c.self.invariant.2 c.type_of.ensures.value c.index_of-index.ensures.value c.sent-sent.ensures.after in
-    let half = known _ c.args.self.now c.self.inside.types c.args.stream _ _ _ c.self.view_is refl c.self.invariant.2 c.type_of.ensures.value c.index_of-index.ensures.value (open_half c.args.self.now c.args.stream c.args.chunk c.requires.due) c.learn_lawful.ensures (c.self.invariant.0.tied.lanes c.args.stream) in
-    let sum = chunk_sum types _ c.args.stream _ c.sent-sent.result.moved _ c.args.chunk half.at is c.self.invariant.0.sum c.sent-sent.ensures.moved in
-    let now = sum_now _ c.args.self.now types _ c.args.stream c.args.chunk c.self.view_is refl is in
-    omega (arith, sum, now, c.requires.small)
+overflow_add-self c = search (rules, updated_is, known, open_half, chunk_sum, sum_now)
 
 pub invariant_of-self : goal.invariant_of-self
 invariant_of-self c =

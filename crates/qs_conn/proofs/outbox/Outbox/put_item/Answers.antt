@@ -1,5 +1,5 @@
 use Rattle.std.proofs.Common.{refl, arith}
-use Rattle.qs_conn.proofs.OutboxMaking.{box_item, item_value, told_now}
+use Rattle.qs_conn.proofs.Flows.{box_item, item_value, told_now}
 use Rattle.qs_machine.proofs.LostSent.{sent_told}
 use Rattle.qs_machine.specs.Sums.{tables_of}
 use Rattle.qs_conn.proofs.outbox.Outbox.put_item.Goals as goal

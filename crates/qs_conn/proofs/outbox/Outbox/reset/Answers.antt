@@ -1,4 +1,4 @@
-use Rattle.std.proofs.Common.{ap, ◌∙◌, refl, sym}
+use Rattle.std.proofs.Common.{ap, ◌∙◌, refl, sym, rules}
 use Rattle.std.proofs.lemmas.List.{length-set}
 use Rattle.qs_send.specs.Lane.{Sending, reset_refusal, answer_of, reset_lane, after_reset}
 use Rattle.qs_machine.specs.Outgoing.{lanes_of}
@@ -9,7 +9,7 @@ use Rattle.qs_conn.proofs.Outboxes.{half_there, lane_now, half_step, same_step, 
 use Rattle.qs_conn.proofs.outbox.Outbox.reset.Goals as goal
 
 pub reset-requires-clause-there : goal.reset-requires-clause-there
-reset-requires-clause-there c = open_there c.self.inside.types c.args.stream _ _ _ c.self.invariant.2 c.type_of.ensures.value c.index_of.ensures.value (half_there _ c.args.self.now (tables_of c.self.inside.types) c.args.stream c.self.view_is refl c.requires.open)
+reset-requires-clause-there c = search (rules, open_there, half_there)
 
 pub invariant_of-self : goal.invariant_of-self
 invariant_of-self c =

@@ -1,4 +1,4 @@
-use Rattle.std.proofs.Common.{◌∙◌, refl}
+use Rattle.std.proofs.Common.{◌∙◌, refl, rules}
 use Rattle.std.proofs.lemmas.List.{length-set}
 use Rattle.qs_send.specs.Lane.{buffer_lane, after_buffer}
 use Rattle.qs_machine.specs.Sums.{tables_of}
@@ -8,7 +8,7 @@ use Rattle.qs_conn.proofs.Outboxes.{half_there, half_step, box_buffered}
 use Rattle.qs_conn.proofs.outbox.Outbox.set_buffer.Goals as goal
 
 pub set_buffer-requires : goal.set_buffer-requires
-set_buffer-requires c = open_there c.self.inside.types c.args.stream _ _ _ c.self.invariant.2 c.type_of.ensures.value c.index_of.ensures.value (half_there _ c.args.self.now (tables_of c.self.inside.types) c.args.stream c.self.view_is refl c.requires)
+set_buffer-requires c = search (rules, open_there, half_there)
 
 pub invariant_of-self : goal.invariant_of-self
 invariant_of-self c =

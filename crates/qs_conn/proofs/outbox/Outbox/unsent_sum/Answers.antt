@@ -3,8 +3,7 @@ use Rattle.qs_machine.specs.Outgoing.{lanes_of}
 use Rattle.qs_machine.specs.Sums.{tables_of}
 use Rattle.qs_machine.proofs.TableEdits.{total_four}
 use Rattle.qs_conn.specs.Promised.{promised_on}
-use Rattle.qs_conn.proofs.Helds.{total_lanes}
-use Rattle.qs_conn.proofs.Promised.{promised_parts}
+use Rattle.qs_conn.proofs.Tasks.{total_lanes, promised_parts}
 use Rattle.qs_conn.proofs.outbox.Outbox.unsent_sum.Goals as goal
 
 pub overflow_sub-unsent : goal.overflow_sub-unsent

@@ -1,4 +1,4 @@
-use Rattle.std.proofs.Common.{refl, subst, sym, length, ◌<◌, ◌∙◌}
+use Rattle.std.proofs.Common.{refl, subst, sym, length, ◌<◌, ◌∙◌, rules}
 use Rattle.std.proofs.lemmas.List.{length-set}
 use Rattle.qs_send.specs.Lane.{Sending, accepted}
 use Rattle.qs_machine.specs.Sums.{tables_of}
@@ -8,10 +8,10 @@ use Rattle.qs_conn.proofs.Outboxes.{half_there, box_written, write_ok, write_err
 use Rattle.qs_conn.proofs.outbox.Outbox.write.Goals as goal
 
 pub learn_lawful-requires-clause-open : goal.learn_lawful-requires-clause-open
-learn_lawful-requires-clause-open c = half_there _ c.args.self.now (tables_of c.self.inside.types) c.args.stream c.self.view_is refl c.requires
+learn_lawful-requires-clause-open c = search (rules, half_there)
 
 pub write-requires : goal.write-requires
-write-requires c = open_there c.self.inside.types c.args.stream _ _ _ c.self.invariant.2 c.type_of.ensures.value c.index_of.ensures.value (half_there _ c.args.self.now (tables_of c.self.inside.types) c.args.stream c.self.view_is refl c.requires)
+write-requires c = search (rules, open_there, half_there)
 
 pub invariant_of-self : goal.invariant_of-self
 invariant_of-self c =

@@ -1,4 +1,4 @@
-use Rattle.qs_conn.proofs.OutboxAcks.{chunk_asks}
+use Rattle.qs_conn.proofs.Outboxes.{chunk_asks}
 use Rattle.qs_machine.specs.Sums.{tables_of}
 use Rattle.qs_conn.proofs.outbox.acks.piece_acked.Goals as goal
 

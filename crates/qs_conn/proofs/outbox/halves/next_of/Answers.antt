@@ -1,14 +1,13 @@
-use Rattle.std.proofs.Common.{◌≡◌, false, refl, arith}
+use Rattle.std.proofs.Common.{◌≡◌, false, refl, arith, rules}
 use Rattle.qs_conn.specs.Tasks.{HasTask, has}
-use Rattle.qs_conn.proofs.Exact.{none_has}
-use Rattle.qs_conn.proofs.Least.{kind_some, kind_none}
+use Rattle.qs_conn.proofs.Marked.{none_has, kind_some, kind_none}
 use Rattle.qs_conn.proofs.outbox.halves.next_of.Goals as goal
 
 pub returns-in-Some-clause-least : goal.returns-in-Some-clause-least
-returns-in-Some-clause-least c = (kind_some (HasTask c.args.task) c.args.types.now c.args.stream_type c.args.from _ c.in-Some.index c.index-types-stream_type.result c.requires.len c.requires.stream_type c.index_from.ensures c.in-Some.ensures.least)
+returns-in-Some-clause-least c = search (rules, kind_some)
 
 pub returns-in-None-clause-least : goal.returns-in-None-clause-least
-returns-in-None-clause-least c = (kind_none (HasTask c.args.task) c.args.types.now c.args.stream_type c.args.from _ c.index-types-stream_type.result c.requires.len c.requires.stream_type c.index_from.ensures c.in-None.ensures.least)
+returns-in-None-clause-least c = search (rules, kind_none)
 
 pub returns-then-not-may_have-clause-least : goal.returns-then-not-may_have-clause-least
 returns-then-not-may_have-clause-least c =

@@ -1,19 +1,16 @@
-use Rattle.std.proofs.Common.{◌≡◌, ◌+◌, ◌-◌, ◌/◌, false, get_or, refl, arith}
+use Rattle.std.proofs.Common.{◌≡◌, ◌+◌, ◌-◌, ◌/◌, false, get_or, refl, arith, rules}
 use Rattle.qs_machine.specs.Tables.{table}
 use Rattle.qs_conn.specs.Tasks.{IsSoughtAt, has}
-use Rattle.qs_conn.proofs.Least.{clear_at}
+use Rattle.qs_conn.proofs.Marked.{clear_at, none_on}
 use Rattle.std.proofs.lemmas.Bool.{both_ways}
-use Rattle.qs_conn.proofs.SoughtTold.{sought_some, sought_none}
-use Rattle.qs_conn.proofs.UntoldSearch.{none_on}
+use Rattle.qs_conn.proofs.Hearing.{sought_some, sought_none}
 use Rattle.qs_conn.proofs.outbox.halves.next_sought_of.Goals as goal
 
 pub returns-in-Some-clause-least : goal.returns-in-Some-clause-least
-returns-in-Some-clause-least c =
-    sought_some c.args.search c.args.types.now c.args.told.now c.args.stream_type c.args.from _ c.index-types-stream_type.result c.requires.len c.requires.stream_type c.index_from.ensures c.in-Some.index (rw c.of_type-marks.ensures at c.in-Some.ensures.least)
+returns-in-Some-clause-least c = search (rules, sought_some)
 
 pub returns-in-None-clause-least : goal.returns-in-None-clause-least
-returns-in-None-clause-least c =
-    sought_none c.args.search c.args.types.now c.args.told.now c.args.stream_type c.args.from _ c.index-types-stream_type.result c.requires.len c.requires.stream_type c.index_from.ensures (rw c.of_type-marks.ensures at c.in-None.ensures.least)
+returns-in-None-clause-least c = search (rules, sought_none)
 
 pub returns-then-not-may_have-clause-least : goal.returns-then-not-may_have-clause-least
 returns-then-not-may_have-clause-least c =

@@ -1,4 +1,4 @@
-use Rattle.std.proofs.Common.{◌<◌, length, refl, sym, subst, ◌∙◌}
+use Rattle.std.proofs.Common.{◌<◌, length, refl, sym, subst, ◌∙◌, rules}
 use Rattle.std.proofs.lemmas.List.{get_or_default}
 use Rattle.qs_recv.specs.Lane.{new_lane}
 use Rattle.qs_recv.specs.declared.credit.Share.TheVariants.{Half}
@@ -7,10 +7,7 @@ use Rattle.qs_conn.specs.RecvEdits.{IsCalm}
 use Rattle.qs_conn.proofs.recv_lanes.RecvLanes.edit.Goals as goal
 
 pub f-answer-requires : goal.f-answer-requires
-f-answer-requires g c =
-    let there : c.args.index < length c.self.inside.halves.items = rw c.self.view_is c.requires.there in
-    let at = c.index_mut-half.ensures.value ∙ get_or_default c.self.inside.halves.items c.args.index c.index_mut-half.result.now (new_lane 0 Half) there in
-    (rw (← c.self.view_is) at c.requires.callable) _ _ at refl
+f-answer-requires g c = search (rules, get_or_default)
 
 pub invariant_of-self : goal.invariant_of-self
 invariant_of-self g c =

@@ -1,6 +1,5 @@
 use Rattle.std.proofs.Common.{◌-◌, ◌≡◌, ◌++◌, false, length, take, replicate, refl, ap, ◌∙◌, arith}
-use Rattle.qs_conn.proofs.LaneEdits.{opened, opened_more, opened_back, undone}
-use Rattle.qs_conn.proofs.Settling.{touched_back}
+use Rattle.qs_conn.proofs.LaneEdits.{opened, opened_more, opened_back, undone, touched_back}
 use Rattle.qs_conn.specs.RecvTasks.{marks_of}
 use Rattle.qs_conn.proofs.recv_lanes.RecvLanes.open_to.Goals as goal
 

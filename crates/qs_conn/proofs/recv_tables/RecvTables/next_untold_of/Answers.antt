@@ -1,5 +1,5 @@
 use Rattle.std.proofs.Common.{refl, arith}
-use Rattle.qs_conn.proofs.RecvNews.{next_untold, untold_within}
+use Rattle.qs_conn.proofs.Marked.{next_untold, untold_within}
 use Rattle.qs_conn.proofs.recv_tables.RecvTables.next_untold_of.Goals as goal
 
 pub overflow_mul-result : goal.overflow_mul-result

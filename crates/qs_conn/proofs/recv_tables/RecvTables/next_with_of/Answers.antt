@@ -1,6 +1,5 @@
-use Rattle.std.proofs.Common.{refl, arith}
-use Rattle.qs_conn.proofs.RecvNews.{next_held}
-use Rattle.qs_conn.proofs.Words.{marked_below}
+use Rattle.std.proofs.Common.{refl, arith, rules}
+use Rattle.qs_conn.proofs.Marked.{next_held, marked_below}
 use Rattle.qs_conn.proofs.recv_tables.RecvTables.next_with_of.Goals as goal
 
 pub overflow_mul-result : goal.overflow_mul-result
@@ -16,4 +15,4 @@ pub returns-in-Some-clause-least : goal.returns-in-Some-clause-least
 returns-in-Some-clause-least c = next_held c.args.task c.args.self.now c.marks-marks.result.now c.args.stream_type c.requires.stream_type c.marks-marks.ensures.value c.args.from _ _ c.index_from.ensures c.in-Some.ensures
 
 pub returns-in-None-clause-least : goal.returns-in-None-clause-least
-returns-in-None-clause-least c = next_held c.args.task c.args.self.now c.marks-marks.result.now c.args.stream_type c.requires.stream_type c.marks-marks.ensures.value c.args.from _ _ c.index_from.ensures c.in-None.ensures
+returns-in-None-clause-least c = search (rules, next_held)

@@ -1,5 +1,5 @@
 use Rattle.std.proofs.iter.Serving.{serving}
-use Rattle.qs_conn.proofs.SendEdits.{acked_still}
+use Rattle.qs_conn.proofs.LaneEdits.{acked_still}
 use Rattle.qs_conn.proofs.send_lanes.SendLanes.acked.Goals as goal
 
 pub edit-answer-requires-clause-stays : goal.edit-answer-requires-clause-stays

@@ -1,13 +1,11 @@
-use Rattle.std.proofs.Common.{◌<◌, length, refl, sym, ◌∙◌}
+use Rattle.std.proofs.Common.{◌<◌, length, refl, rules}
 use Rattle.qs_send.specs.Halves.{half_at}
 use Rattle.qs_send.specs.Lane.{after_allow}
-use Rattle.qs_conn.proofs.SendEdits.{allow_over, put_over, put_looked, changed_is}
+use Rattle.qs_conn.proofs.LaneEdits.{allow_over, put_over, put_looked, changed_is}
 use Rattle.qs_conn.proofs.send_lanes.SendLanes.allow.Goals as goal
 
 pub look_at-requires-clause-over : goal.look_at-requires-clause-over
-look_at-requires-clause-over c =
-    let there : c.args.index < length c.self.inside.halves = rw c.self.view_is c.requires.there in
-    put_over c.self.inside.halves _ c.self.inside.marks c.args.index (after_allow (half_at c.self.inside.halves c.args.index) c.args.limit) there c.allow.ensures c.self.invariant.1 (allow_over _ c.args.limit)
+look_at-requires-clause-over c = search (rules, put_over, allow_over)
 
 pub invariant_of-self : goal.invariant_of-self
 invariant_of-self c =
@@ -15,4 +13,4 @@ invariant_of-self c =
     put_looked c.self.inside.halves _ c.self.inside.marks c.args.index (after_allow (half_at c.self.inside.halves c.args.index) c.args.limit) there c.allow.ensures _ _ _ c.look_at.ensures refl refl c.self.invariant
 
 pub returns : goal.returns
-returns c = rw (← c.self.view_is) (c.allow.ensures ∙ sym (changed_is c.self.inside.halves c.args.index (λ s. after_allow s c.args.limit) (rw c.self.view_is c.requires.there)))
+returns c = rw (← c.self.view_is) (search (rules, changed_is))

@@ -1,11 +1,10 @@
-use Rattle.std.proofs.Common.{◌<◌, length, refl, sym, subst, arith, inl, inr}
+use Rattle.std.proofs.Common.{◌<◌, length, refl, sym, subst, inl, inr, rules}
 use Rattle.qs_send.specs.Lane.{Sending}
 use Rattle.qs_send.specs.Halves.{half_at}
 use Rattle.qs_send.specs.Sound.{IsLawful}
 use Rattle.qs_conn.specs.Tasks.{Stays}
-use Rattle.qs_conn.proofs.SendEdits.{lent_at, set_same}
-use Rattle.qs_conn.proofs.Promised.{kept_of, promised_of, sum_few, sums_counted}
-use Rattle.qs_conn.proofs.Tasks.{all_looked, marked_before, marks_read}
+use Rattle.qs_conn.proofs.LaneEdits.{lent_at, set_same}
+use Rattle.qs_conn.proofs.Tasks.{kept_of, promised_of, sum_few, sums_counted, all_looked, marked_before, marks_read}
 use Rattle.qs_conn.proofs.send_lanes.SendLanes.edit.Goals as goal
 
 pub returns-in_default : goal.returns-in_default
@@ -15,10 +14,10 @@ pub returns : goal.returns
 returns g c = rw (← c.self.view_is) (record { half = c.change-answer.new.arg2; left = inl (record { shown = _; shows = c.in-Some.ensures.found; left = _; met = c.change-answer.ensures; leaves = refl }); is = refl })
 
 pub overflow_add-self : goal.overflow_add-self
-overflow_add-self g c = (let few = sum_few promised_of c.self.inside.halves c.self.inside.promised c.self.invariant.0 c.self.invariant.2.promised in omega (arith, few, c.measure-is.ensures.few_promised))
+overflow_add-self g c = search (rules, sum_few, promised_of)
 
 pub overflow_add-self-2 : goal.overflow_add-self-2
-overflow_add-self-2 g c = (let few = sum_few kept_of c.self.inside.halves c.self.inside.kept c.self.invariant.0 c.self.invariant.2.kept in omega (arith, few, c.measure-is.ensures.few_kept))
+overflow_add-self-2 g c = search (rules, sum_few, kept_of)
 
 pub look-requires-clause-stays : goal.look-requires-clause-stays
 look-requires-clause-stays g c =

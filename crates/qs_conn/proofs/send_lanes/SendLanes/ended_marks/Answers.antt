@@ -2,8 +2,7 @@ use Rattle.std.proofs.Common.{arith}
 use Rattle.qs_conn.specs.Tasks.{IsQuiet}
 use Rattle.qs_conn.specs.declared.send_marks.Task.TheVariants as tasks
 use Rattle.qs_conn.specs.Tasks.{has}
-use Rattle.qs_conn.proofs.Exact.{are_marked}
-use Rattle.qs_conn.proofs.Marked.{marked_len}
+use Rattle.qs_conn.proofs.Marked.{are_marked, marked_len}
 use Rattle.qs_conn.proofs.send_lanes.SendLanes.ended_marks.Goals as goal
 
 pub returns-clause-none : goal.returns-clause-none

@@ -1,6 +1,6 @@
 use Rattle.std.proofs.Common.{sym, ◌∙◌}
 use Rattle.qs_conn.specs.Tasks.{has, marks_of}
-use Rattle.qs_conn.proofs.Exact.{mark_at}
+use Rattle.qs_conn.proofs.Marked.{mark_at}
 use Rattle.qs_conn.proofs.send_lanes.SendLanes.may_have.Goals as goal
 
 pub returns : goal.returns

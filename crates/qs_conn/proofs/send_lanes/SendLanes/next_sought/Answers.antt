@@ -1,6 +1,6 @@
 use Rattle.qs_conn.specs.Tasks.{has, marks_of}
-use Rattle.qs_conn.proofs.Exact.{found_small}
-use Rattle.qs_conn.proofs.SoughtTold.{sought_least, sought_mark}
+use Rattle.qs_conn.proofs.Marked.{found_small}
+use Rattle.qs_conn.proofs.Hearing.{sought_least, sought_mark}
 use Rattle.qs_conn.proofs.send_lanes.SendLanes.next_sought.Goals as goal
 
 pub returns : goal.returns

@@ -1,5 +1,5 @@
 use Rattle.qs_conn.specs.Tasks.{has, marks_of}
-use Rattle.qs_conn.proofs.Exact.{marked_least, found_small}
+use Rattle.qs_conn.proofs.Marked.{marked_least, found_small}
 use Rattle.qs_conn.proofs.send_lanes.SendLanes.next_with.Goals as goal
 
 pub returns : goal.returns

@@ -1,13 +1,11 @@
-use Rattle.std.proofs.Common.{◌<◌, length, refl, sym, ◌∙◌}
+use Rattle.std.proofs.Common.{◌<◌, length, refl, rules}
 use Rattle.qs_send.specs.Halves.{half_at}
 use Rattle.qs_send.specs.Lane.{after_blocked}
-use Rattle.qs_conn.proofs.SendEdits.{blocked_over, put_over, put_looked, changed_is}
+use Rattle.qs_conn.proofs.LaneEdits.{blocked_over, put_over, put_looked, changed_is}
 use Rattle.qs_conn.proofs.send_lanes.SendLanes.note_blocked.Goals as goal
 
 pub look_at-requires-clause-over : goal.look_at-requires-clause-over
-look_at-requires-clause-over c =
-    let there : c.args.index < length c.self.inside.halves = rw c.self.view_is c.requires in
-    put_over c.self.inside.halves _ c.self.inside.marks c.args.index (after_blocked (half_at c.self.inside.halves c.args.index)) there c.note_blocked.ensures c.self.invariant.1 (blocked_over _)
+look_at-requires-clause-over c = search (rules, put_over, blocked_over)
 
 pub invariant_of-self : goal.invariant_of-self
 invariant_of-self c =
@@ -15,4 +13,4 @@ invariant_of-self c =
     put_looked c.self.inside.halves _ c.self.inside.marks c.args.index (after_blocked (half_at c.self.inside.halves c.args.index)) there c.note_blocked.ensures _ _ _ c.look_at.ensures refl refl c.self.invariant
 
 pub returns : goal.returns
-returns c = rw (← c.self.view_is) (c.note_blocked.ensures ∙ sym (changed_is c.self.inside.halves c.args.index after_blocked (rw c.self.view_is c.requires)))
+returns c = rw (← c.self.view_is) (search (rules, changed_is))

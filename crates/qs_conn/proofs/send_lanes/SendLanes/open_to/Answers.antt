@@ -1,13 +1,12 @@
 use Rattle.std.proofs.Common.{ℕ, Some, rules, ap, ◌∙◌, arith, ◌≡◌, ◌+◌, ◌-◌, ◌*◌, ◌++◌, length, take, replicate}
 use Rattle.qs_send.specs.Lane.{new_sending}
-use Rattle.qs_conn.proofs.LaneEdits.{opened_more, opened_all, opened_back}
+use Rattle.qs_conn.proofs.LaneEdits.{opened_more, opened_all, opened_back, id_is}
 use Rattle.qs_conn.specs.Tasks.{begins, marks_of}
 use Rattle.qs_conn.proofs.Tasks.{all_undone, all_opened}
 use Rattle.std.proofs.Common.{map}
 use Rattle.std.specs.List.{range_with_len}
 use Rattle.std.proofs.lemmas.List.{length-append}
 use Rattle.std.proofs.lemmas.List.FromFn.{length-map-range_with_len}
-use Rattle.qs_conn.proofs.SendEdits.{id_is}
 use Rattle.qs_conn.proofs.send_lanes.SendLanes.open_to.Goals as goal
 
 pub loop-opened-preserved : goal.loop-opened-preserved

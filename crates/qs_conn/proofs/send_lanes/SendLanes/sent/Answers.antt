@@ -7,7 +7,7 @@ use Rattle.qs_send.specs.Lane.{after_sent}
 use Rattle.qs_machine.specs.Sums.{no_sending}
 use Rattle.qs_conn.specs.Tasks.{has}
 use Rattle.qs_conn.specs.declared.send_marks.Task.TheVariants as tasks
-use Rattle.qs_conn.proofs.SendEdits.{over_sent, there_at, sent_still}
+use Rattle.qs_conn.proofs.LaneEdits.{over_sent, there_at, sent_still}
 use Rattle.qs_conn.proofs.Tasks.{marks_read, marks_there}
 use Rattle.qs_conn.proofs.send_lanes.SendLanes.sent.Goals as goal
 

@@ -1,7 +1,7 @@
 use Rattle.std.proofs.iter.Serving.{serving}
 use Rattle.std.proofs.Common.{◌<◌, arith, length, sym, ◌∙◌}
 use Rattle.qs_conn.specs.declared.send_marks.Task.TheVariants as tasks
-use Rattle.qs_conn.proofs.SendEdits.{there_at, wrote_none, wrote_still}
+use Rattle.qs_conn.proofs.LaneEdits.{there_at, wrote_none, wrote_still}
 use Rattle.qs_conn.proofs.Tasks.{marks_read, marks_there}
 use Rattle.qs_conn.proofs.send_lanes.SendLanes.write.Goals as goal
 

@@ -1,8 +1,8 @@
-use Rattle.std.proofs.Common.{◌≡◌, ℕ, zero, suc, ◌+◌, Bool, true, false, List, ◌∷◌, sym, refl, ap, arith}
+use Rattle.std.proofs.Common.{◌≡◌, ℕ, zero, suc, ◌+◌, Bool, true, false, List, ◌∷◌, sym, refl, ap, rules}
 use Rattle.std.proofs.Math.ListN.{set}
 use Rattle.std.proofs.lemmas.Bool.{true≢false}
 use Rattle.qs_conn.specs.Marks.{is_marked, count_marked}
-use Rattle.qs_conn.proofs.Words.{marked_below}
+use Rattle.qs_conn.proofs.Marked.{marked_below}
 use Rattle.qs_conn.proofs.touches.Touches.pop_marked.Goals as goal
 
 count_fewer : (ms : List Bool) (i : ℕ) → is_marked ms i ≡ true → count_marked (set ms i false) + 1 ≡ count_marked ms
@@ -15,6 +15,4 @@ pub set-requires : goal.set-requires
 set-requires c = marked_below c.args.self.now.marks c.in-Some.index (c.in-Some.ensures.found c.in-Some.index refl).1
 
 pub returns-in-Some-clause-fewer : goal.returns-in-Some-clause-fewer
-returns-in-Some-clause-fewer c =
-    let less = count_fewer c.args.self.now.marks c.in-Some.index (c.in-Some.ensures.found c.in-Some.index refl).1 in
-    rw c.requires (omega (arith, less, ap count_marked c.set.ensures))
+returns-in-Some-clause-fewer c = rw c.requires (search (rules, count_fewer, set))

@@ -1,8 +1,0 @@
-use Rattle.std.proofs.Common.{refl, subst}
-use Rattle.qs_machine.specs.Ends.{Records}
-use Rattle.qs_machine.specs.Asking.{IsNextOutstanding}
-use Rattle.qs_conn.proofs.OutboxAcks.{idle_out}
-use Rattle.qs_conn.proofs.outbox.Outbox.next_outstanding.Goals as goal
-
-pub returns : goal.returns
-returns c = subst (λ (m : Records). IsNextOutstanding m c.args.from c.next_held.result) (idle_out _ c.args.self.now c.self.inside.records.pieces c.self.inside.pending.items c.self.view_is refl c.requires) c.next_held.ensures
