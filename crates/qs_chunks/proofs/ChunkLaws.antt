@@ -9,8 +9,7 @@ use Rattle.std.specs.FinSet as set
 use Rattle.std.proofs.lemmas.Bool.{both_ways, cases_lt, and_parts, ltb-true, leb-true, and_from, le-leb, lt-leb, lt-ltb, ne_eqb}
 use Rattle.std.proofs.lemmas.Bool.Decides.{nat_tests}
 use Rattle.qs_recv.specs.Assembled.{store, front, keep_from}
-use Rattle.qs_recv.proofs.AssembledLaws.{is_in_run, get-store, get-keep_from, get-insert_nat}
-use Rattle.qs_recv.proofs.ReadLaws.{front_of_bytes}
+use Rattle.qs_recv.proofs.RingLaws.{is_in_run, get-store, get-keep_from, get-insert_nat, front_of_bytes}
 use Rattle.qs_recv.specs.Bytes.{byte_at}
 use Rattle.qs_chunks.specs.Chunks.{or_else, rest_of, Piece, stored_in, IsOrdered, end_of_piece, pieces_end, total}
 

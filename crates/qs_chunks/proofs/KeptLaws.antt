@@ -9,7 +9,7 @@ use Rattle.std.specs.FinSet as set
 use Rattle.std.proofs.lemmas.Bool.{both_ways, cases_lt, or_left, le-ltb, lt-ltb, le-leb, lt-leb}
 use Rattle.qs_ranges.specs.Numbers.{NumberSet, MAX_VARINT}
 use Rattle.qs_recv.specs.Assembled.{front, keep_from}
-use Rattle.qs_recv.proofs.AssembledLaws.{is_in_run, with_run, contains-with_run, get-keep_from, stored_by_keep}
+use Rattle.qs_recv.proofs.RingLaws.{is_in_run, with_run, contains-with_run, get-keep_from, stored_by_keep}
 use Rattle.qs_chunks.specs.Chunks.{first_bytes, first_offset, without_first, total, Piece, stored_in, IsOrdered, end_of_piece, rest_of}
 use Rattle.qs_chunks.proofs.ChunkLaws.{get-stored_in, get-stored_in_none, byte_of, is_some-byte_of, is_in_from, none_below, not_some, front-first, keep_from-first, keep_from-whole, IsOrdered-rest}
 use Rattle.qs_chunks.proofs.SpotLaws.{stored_later}

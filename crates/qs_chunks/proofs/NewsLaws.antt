@@ -9,7 +9,7 @@ use Rattle.qs_ranges.specs.Numbers.{NumberSet, covers, numbers, same_numbers, co
 use Rattle.qs_ranges.proofs.Sets.{covers-is}
 use Rattle.qs_chunks.specs.Chunks.{Piece, IsOrdered, IsSpot, between, end_of_piece, or_else, stored_in, total}
 use Rattle.qs_chunks.specs.Kept.{IsKept}
-use Rattle.qs_recv.proofs.AssembledLaws.{is_in_run, with_run, contains-with_run}
+use Rattle.qs_recv.proofs.RingLaws.{is_in_run, with_run, contains-with_run}
 use Rattle.qs_chunks.proofs.ChunkLaws.{get-stored_in_none, none_below, none_past, not_some, past_piece}
 use Rattle.qs_chunks.proofs.PutLaws.{get_parts}
 

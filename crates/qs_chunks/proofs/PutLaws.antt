@@ -14,7 +14,7 @@ use Rattle.qs_recv.specs.Assembled.{put, store}
 use Rattle.qs_recv.specs.Bytes.{byte_at}
 use Rattle.qs_chunks.specs.Chunks.{Piece, IsOrdered, IsPlaced, IsSpot, between, end_of_piece, longer, or_else, piece_at, pieces_end, stored_in, total, with_longer, with_spot}
 use Rattle.qs_chunks.specs.Kept.{IsKept}
-use Rattle.qs_recv.proofs.AssembledLaws.{is_in_run, with_run, contains-with_run, get-store, stored_by_put}
+use Rattle.qs_recv.proofs.RingLaws.{is_in_run, with_run, contains-with_run, get-store, stored_by_put}
 use Rattle.qs_chunks.proofs.ChunkLaws.{get-stored_in, get-stored_in-append, is_in, byte_of, is_some-byte_of, is_in_from, not_in_below, not_in_above, none_past, none_below, slice_get-drop}
 use Rattle.qs_chunks.proofs.SpotLaws.{nothing_over}
 use Rattle.qs_chunks.proofs.KeptLaws.{IsOrdered-raise, IsOrdered-lower}

@@ -9,8 +9,7 @@ use Rattle.std.specs.FinMap as map
 use Rattle.std.specs.FinMap.{nat_cmp-IsAntisymmetric, same_map}
 use Rattle.qs_recv.specs.Assembled.{Assembled, front, front_from, front_of, keep_from}
 use Rattle.qs_recv.specs.Bytes.{take_exactly}
-use Rattle.qs_recv.proofs.AssembledLaws.{get-keep_from}
-use Rattle.qs_recv.proofs.ReadLaws.{append_nil, front-more, front_none, front_zero}
+use Rattle.qs_recv.proofs.RingLaws.{get-keep_from, append_nil, front-more, front_none, front_zero}
 
 pub front-keep_from : (m : map.FinMap nat_cmp ℕ) (low at b : ℕ) → low ≤ at → front (keep_from m low) at b ≡ front m at b
 unfolding front

@@ -14,7 +14,7 @@ use Rattle.qs_recv.specs.Assembled.{Assembled, nothing_yet, put, take_front, fro
 use Rattle.qs_chunks.specs.Replay.{sight, shown_by, replayed, IsPlayed}
 use Rattle.qs_chunks.specs.declared.replay.Step.{Step}
 use Rattle.qs_chunks.specs.declared.replay.Shown.{Shown}
-use Rattle.qs_recv.proofs.AssembledLaws.{is_in_run, get-insert_nat, stored_by_put, stored_by_keep, front_stored}
+use Rattle.qs_recv.proofs.RingLaws.{is_in_run, get-insert_nat, stored_by_put, stored_by_keep, front_stored}
 use Rattle.qs_recv.specs.Lane.{MAX_WINDOW}
 
 -- Each step keeps the counts true

@@ -13,7 +13,7 @@ use Rattle.std.proofs.lemmas.Grind.{same_number_lists}
 use Rattle.qs_recv.specs.Assembled.{same}
 use Rattle.qs_chunks.specs.Chunks.{AreOne, Piece, IsOrdered, end_of_piece, piece_at, pieces_end, stored_in}
 use Rattle.qs_chunks.proofs.ChunkLaws.{byte_of, get-stored_in, in_piece, none_below, not_in_below, past_piece}
-use Rattle.qs_recv.proofs.SameLaws.{byte_in, byte_there, length_part, part, part_at, same_at, same_by, same_none, same_true}
+use Rattle.qs_recv.proofs.RingLaws.{byte_in, byte_there, length_part, part, part_at, same_at, same_by, same_none, same_true}
 use Rattle.qs_chunks.proofs.SpotLaws.{drop_first, ordered_drop, ordered_from}
 
 pub one_by_slices : (at offset from to : ℕ) (own bytes : List ℕ) (r : Bool) → from ≡ max at offset → to ≡ min (at + length own) (offset + length bytes) → from < to

@@ -7,7 +7,7 @@ use Rattle.std.proofs.lemmas.List.Sorted.{IsNonDecreasingBy-from_all_adjacent}
 use Rattle.std.specs.FinMap as map
 use Rattle.std.proofs.lemmas.Bool.{both_ways, cases_lt, cases_Bool, and_parts, ltb-true}
 use Rattle.qs_chunks.specs.Chunks.{Piece, IsOrdered, IsSpot, IsStored, between, end_of_piece, or_else, piece_at, pieces_end, stored_in, total}
-use Rattle.qs_recv.proofs.ReadLaws.{append_nil}
+use Rattle.qs_recv.proofs.RingLaws.{append_nil}
 use Rattle.qs_chunks.proofs.ChunkLaws.{get-stored_in, get-stored_in_none, is_in, byte_of, is_some-byte_of, is_in_from, none_below, low_end}
 
 -- Lists of pieces, cut at a place

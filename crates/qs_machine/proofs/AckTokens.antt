@@ -23,7 +23,7 @@ use Rattle.qs_send.specs.declared.piece.Item.{Item}
 use Rattle.qs_send.specs.declared.piece.Item.TheVariants.{MaxData, MaxStreamData, MaxStreams, ResetStream, StopSending, DataBlocked, StreamDataBlocked, StreamsBlocked}
 use Rattle.qs_send.specs.declared.piece.Piece.{Piece}
 use Rattle.qs_send.specs.declared.piece.Piece.TheVariants.{Data, Told}
-use Rattle.qs_send.proofs.Carrying.{rest_of, get_same-without_first, get_other-without_first, unheld-without_first}
+use Rattle.qs_send.proofs.Outstanding.{rest_of, get_same-without_first, get_other-without_first, unheld-without_first}
 use Rattle.qs_machine.specs.LostPackets.{LostPackets, lost_less}
 use Rattle.qs_machine.specs.Ends.{End, Records, AckedItems}
 use Rattle.qs_machine.specs.FrameStep.{greatest, greatest_of, or_zero, AckedPiece, without_piece, first_acked, piece_acked, acks, held, pieces_of, named_in, named, is_named, frame_taken}

@@ -11,7 +11,7 @@ use Rattle.std.proofs.lemmas.Grind.{reverse_onto}
 use Rattle.std.proofs.lemmas.Bool.{both_ways, or_cases, eqb-true, cases_eq}
 use Rattle.qs_send.specs.Records.{Among, without_first}
 use Rattle.qs_send.specs.declared.piece.Piece.{Piece}
-use Rattle.qs_send.proofs.Carrying.{rest_of, get_same-without_first, get_other-without_first}
+use Rattle.qs_send.proofs.Outstanding.{rest_of, get_same-without_first, get_other-without_first}
 use Rattle.qs_machine.specs.Ends.{End, Records}
 use Rattle.qs_machine.specs.FrameStep.{AckedPiece, acked_at, held, without_piece, pieces_of, acks, first_acked, piece_acked, named_in, named, acked_numbers, is_named}
 use Rattle.qs_machine.proofs.EndsAfter.{IsBare, bare_without}

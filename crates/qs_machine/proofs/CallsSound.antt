@@ -7,7 +7,7 @@ use Rattle.qs_wire.specs.declared.stream_id.Role.{Role}
 use Rattle.qs_recv.specs.Lane.{MAX_WINDOW, RecvLane, new_lane, highest, taken, raise, next_limit, check_stream, check_reset, take_stream, take_reset, is_whole, breaks_final_size, MAX_CONN_WINDOW, after_read, after_answer, read_answer, stop, stop_and_discard, is_over, set_window}
 use Rattle.qs_recv.specs.declared.credit.Share.{Share}
 use Rattle.qs_recv.specs.Lawful.{IsLawful}
-use Rattle.qs_recv.proofs.LawfulLaws.{lawful_new, highest-take_stream}
+use Rattle.qs_recv.proofs.LawfulLaws.{lawful_new, highest-take_stream, lawful_after_call, grows_after_call}
 use Rattle.qs_calls.specs.declared.settings.Settings.{Settings}
 use Rattle.qs_calls.specs.Settings.{are_in_wide_range, is_between, MAX_GRANT}
 use Rattle.qs_machine.specs.Tables.{Tables, lookup, update, updated, open_to, each, total}
@@ -22,7 +22,6 @@ use Rattle.qs_recv.specs.Laws.{TakeStream, TakeReset, ReadUpTo, StopWith, Forget
 use Rattle.qs_recv.specs.declared.half.Highest.{Highest}
 use Rattle.qs_recv.specs.declared.half.RecvFault.{RecvFault}
 use Rattle.qs_recv.specs.declared.half.RecvFault.TheVariants.{FinalSize, StreamCredit}
-use Rattle.qs_recv.proofs.GrowthLaws.{lawful_after_call, grows_after_call}
 use Rattle.qs_send.specs.declared.piece.Item.{Item}
 use Rattle.qs_send.specs.declared.piece.Item.TheVariants.{MaxStreamData, MaxStreams, ResetStream, StopSending, StreamDataBlocked}
 use Rattle.qs_machine.specs.Credit.{spent, all_taken, ended, settle}

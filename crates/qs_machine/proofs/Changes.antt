@@ -5,14 +5,13 @@ use Rattle.std.proofs.lemmas.Option.{none-some, same_Some}
 use Rattle.std.proofs.lemmas.Bool.{and_parts, both_ways, cond_both, or_cases, or_right}
 use Rattle.std.proofs.lemmas.Bool.Decides.{nat_tests}
 use Rattle.qs_ranges.specs.Numbers.{covers}
-use Rattle.qs_ranges.proofs.Sets.{covers-is, covers-of}
-use Rattle.qs_ranges.proofs.Algebra.{inside}
+use Rattle.qs_ranges.proofs.Sets.{covers-is, covers-of, inside}
 use Rattle.qs_wire.specs.declared.stream_id.Dir.TheVariants.{Bidi, Uni}
 use Rattle.qs_recv.specs.Assembled.{forget}
 use Rattle.qs_recv.specs.Lane.{RecvLane, check_stream, take_stream, take_reset, breaks_known, highest}
 use Rattle.qs_recv.specs.declared.credit.Share.TheVariants.{Half}
 use Rattle.qs_recv.specs.Changes.{stream_changes}
-use Rattle.qs_recv.proofs.AssembledLaws.{contains-with_run}
+use Rattle.qs_recv.proofs.RingLaws.{contains-with_run}
 use Rattle.qs_recv.proofs.LawfulLaws.{unbroken}
 use Rattle.qs_send.specs.Lane.{SendLane, stop_taken, allow_lane}
 use Rattle.qs_send.specs.Changes.{changes_by_stop}

@@ -23,10 +23,9 @@ use Rattle.qs_machine.proofs.TablesAfter.{KeptIn}
 use Rattle.std.specs.FinMap as fmap
 use Rattle.std.specs.Ordering.{nat_cmp}
 use Rattle.std.proofs.lemmas.Bool.Decides.{nat_tests}
-use Rattle.qs_ranges.proofs.Sets.{below-end_of, end_of-empty}
+use Rattle.qs_ranges.proofs.Sets.{below-end_of, end_of-empty, starts_below_end}
 use Rattle.qs_recv.specs.Lawful.{IsLawful}
-use Rattle.qs_recv.proofs.LaneLaws.{len_within}
-use Rattle.qs_recv.proofs.LawfulLaws.{stored_within, taken_within, lawful_new, lawful_raise}
+use Rattle.qs_recv.proofs.LawfulLaws.{len_within, stored_within, taken_within, lawful_new, lawful_raise}
 use Rattle.qs_calls.specs.declared.settings.PeerLimits.{PeerLimits}
 use Rattle.qs_calls.specs.declared.settings.SetupFault.{SetupFault}
 use Rattle.qs_calls.specs.declared.settings.SetupFault.TheVariants.{OutOfRange, TooManyStreams}
@@ -35,7 +34,6 @@ use Rattle.qs_machine.proofs.TableLaws.{value, total_le, total_both}
 use Rattle.std.specs.FinSet as set
 use Rattle.std.proofs.lemmas.List.Sums.{sum_by-cons, sum_by-append}
 use Rattle.std.proofs.Math.ListN.{set}
-use Rattle.qs_ranges.proofs.Starts.{starts_below_end}
 use Rattle.qs_machine.specs.declared.tally.Tally.{Tally}
 use Rattle.qs_machine.specs.Sums.{stored_on, tally_on, IsPaid, EachLawful}
 

@@ -17,7 +17,7 @@ use Rattle.qs_send.specs.declared.piece.Item.{Item}
 use Rattle.qs_send.specs.declared.piece.Item.TheVariants.{MaxData, MaxStreamData, MaxStreams, ResetStream, StopSending, StreamDataBlocked, StreamsBlocked}
 use Rattle.qs_send.specs.declared.piece.Piece.{Piece}
 use Rattle.qs_send.specs.declared.piece.Piece.TheVariants.{Data, Told}
-use Rattle.qs_send.proofs.Carrying.{rest_of, get-without_first, carried-without_first}
+use Rattle.qs_send.proofs.Outstanding.{rest_of, get-without_first, carried-without_first}
 use Rattle.qs_machine.specs.Tables.{Tables, lookup}
 use Rattle.qs_calls.specs.declared.closing.Closed.{Closed}
 use Rattle.qs_machine.specs.Recording.{recorded}

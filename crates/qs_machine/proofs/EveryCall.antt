@@ -19,7 +19,7 @@ use Rattle.qs_recv.specs.Lane.{after_read, stop, stop_and_discard}
 use Rattle.qs_recv.specs.declared.half.Read.{Read}
 use Rattle.qs_send.specs.Records.{IsCarried}
 use Rattle.qs_send.specs.declared.piece.Piece.{Piece}
-use Rattle.qs_send.proofs.Carrying.{rest_of, get_same-without_first}
+use Rattle.qs_send.proofs.Outstanding.{rest_of, get_same-without_first}
 use Rattle.qs_calls.specs.declared.closing.Closing.{Closing}
 use Rattle.qs_calls.specs.declared.closing.Closed.{Closed}
 use Rattle.qs_calls.specs.declared.closing.Closed.TheVariants.{ByUs, ByPeer}

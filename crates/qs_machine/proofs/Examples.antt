@@ -8,8 +8,7 @@ use Rattle.std.specs.Prelude.{Err, max, cond, not, Bool, true, false, ◌&&◌, 
 use Rattle.std.proofs.lemmas.Option.{same_Some, none-some}
 use Rattle.qs_recv.specs.Assembled.{front, same, store}
 use Rattle.qs_recv.specs.Bytes.{byte_at}
-use Rattle.qs_recv.proofs.AssembledLaws.{contains-with_run, get-keep_from, get-store, is_in_run}
-use Rattle.qs_recv.proofs.SameLaws.{same_none, same_true}
+use Rattle.qs_recv.proofs.RingLaws.{contains-with_run, get-keep_from, get-store, is_in_run, same_none, same_true}
 use Rattle.qs_send.specs.Lane.{SendLane, new_lane, write_lane, sent_lane, stopped_lane, asked_lane, unacked_from, state}
 use Rattle.qs_send.specs.declared.parts.SendFault.TheVariants.{Finished}
 use Rattle.qs_ranges.specs.Numbers.{numbers, end_of}

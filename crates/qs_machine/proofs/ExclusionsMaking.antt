@@ -16,7 +16,7 @@ use Rattle.qs_send.specs.declared.parts.Chunk.{Chunk}
 use Rattle.qs_send.specs.declared.piece.Item.TheVariants.{MaxData, MaxStreams, ResetStream, StopSending}
 use Rattle.qs_send.specs.declared.piece.Piece.{Piece}
 use Rattle.qs_send.specs.declared.piece.Piece.TheVariants.{Data, Told}
-use Rattle.qs_send.proofs.Carrying.{carried-empty}
+use Rattle.qs_send.proofs.Outstanding.{carried-empty}
 use Rattle.qs_machine.specs.Tables.{lookup, total, update}
 use Rattle.qs_machine.specs.Due.{IsDue, IsCurrent, StreamGoes, Sendable, IsDueItem}
 use Rattle.qs_machine.specs.SmallEnds.{client_with, chunk, wrote, all_came, abc, owing}

@@ -26,14 +26,12 @@ use Rattle.qs_machine.proofs.ExclusionsMaking.{ok_is_no_err, came_whole}
 use Rattle.std.proofs.lemmas.Bool.Decides.{nat_tests}
 use Rattle.qs_ranges.specs.Numbers.{numbers, missing_from, contains-numbers, contains-with_range, run_starts}
 use Rattle.qs_ranges.specs.Runs.{set_of}
-use Rattle.qs_ranges.proofs.Count.{len-run_starts}
-use Rattle.qs_ranges.proofs.Members.{set_of-is}
-use Rattle.qs_ranges.proofs.Starts.{starts_below_end}
-use Rattle.qs_ranges.proofs.Sets.{end_of-empty, missing_from-of}
+use Rattle.qs_ranges.proofs.Edits.{len-run_starts, set_of-is}
+use Rattle.qs_ranges.proofs.Sets.{starts_below_end, end_of-empty, missing_from-of}
 use Rattle.qs_recv.specs.Assembled.{front, front_of}
 use Rattle.qs_recv.specs.News.{tells_something, is_readable}
 use Rattle.qs_recv.specs.Peek.{IsFront}
-use Rattle.qs_recv.proofs.AssembledLaws.{get-insert_nat}
+use Rattle.qs_recv.proofs.RingLaws.{get-insert_nat}
 use Rattle.qs_machine.specs.Asking.{all_noted}
 use Rattle.qs_machine.specs.ExclusionsAsking.{CreditIsSent, RoomIsTaken, UnsentIsNew, AckedInARow, RunsAreNoted, BytesAreTaken, NotAsked, KeptUntilAcked, NoSuchLook, one_stored, two_stored, was_reset}
 use Rattle.qs_send.specs.Writable.{is_writable}

@@ -7,21 +7,16 @@ use Rattle.std.specs.FinSet as set
 use Rattle.std.proofs.lemmas.Bool.{both_ways, cond_both, or_cases, or_left, or_right}
 use Rattle.std.proofs.lemmas.Bool.Decides.{nat_tests}
 use Rattle.qs_ranges.specs.Numbers.{NumberSet, ContainsRange, is_within, end_of}
-use Rattle.qs_ranges.proofs.Sets.{covers-is, covers-of, below-end_of}
-use Rattle.qs_ranges.proofs.Algebra.{inside, with_range-covered}
+use Rattle.qs_ranges.proofs.Sets.{covers-is, covers-of, below-end_of, inside, with_range-covered}
 use Rattle.qs_recv.specs.Assembled.{Assembled, put, store, discard, forget}
 use Rattle.qs_recv.specs.Lane.{RecvLane, highest, highest_after, check_stream, check_reset, check_bytes, take_stream, take_reset, is_whole, breaks_known, raise, stop, stop_and_discard, is_over, after_read, after_answer, read_answer, set_window}
 use Rattle.qs_recv.specs.declared.half.Read.{Read}
 use Rattle.qs_recv.specs.Lawful.{IsLawful}
 use Rattle.qs_recv.specs.declared.half.Highest.{Highest}
 use Rattle.qs_recv.specs.declared.half.RecvFault.TheVariants.{FinalSize, StreamCredit, ChangedByte}
-use Rattle.qs_recv.proofs.AssembledLaws.{contains-with_run}
-use Rattle.qs_recv.proofs.LaneLaws.{check_fits}
+use Rattle.qs_recv.proofs.RingLaws.{contains-with_run, byte_in, same_none, same_true}
+use Rattle.qs_recv.proofs.LawfulLaws.{check_fits, check_is, taken_passes, stored_before as byte_before, unbroken, raised_grows, under_grows, grows_after_call}
 use Rattle.qs_recv.specs.Laws.{Grows, IsUnchanged, TakeStream, TakeReset, ReadUpTo, StopWith}
-use Rattle.qs_recv.proofs.SameAgain.{check_is, taken_passes, stored_before as byte_before}
-use Rattle.qs_recv.proofs.SameLaws.{byte_in, same_none, same_true}
-use Rattle.qs_recv.proofs.LawfulLaws.{unbroken, raised_grows, under_grows}
-use Rattle.qs_recv.proofs.GrowthLaws.{grows_after_call}
 use Rattle.qs_machine.proofs.EndedHalves.{RecvStays, recv_stays, whole_stays, reset_stays_ended, read_stays, stop_stays, forget_stays}
 use Rattle.qs_machine.proofs.EveryCall.{same_either}
 

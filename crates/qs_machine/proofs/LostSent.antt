@@ -14,7 +14,7 @@ use Rattle.qs_send.specs.declared.piece.Piece.TheVariants.{Data, Told}
 use Rattle.qs_send.specs.Lane.{SendLane, Sending, new_sending, accepted, refusal, reset_refusal, after_write, after_finish, after_reset, after_stopped, after_asked, after_stop, after_allow, after_buffer, after_blocked, after_reset_acked, after_sent, after_acked, after_lost}
 use Rattle.qs_send.specs.Records.{without_first}
 use Rattle.qs_send.specs.LostRecords.{MOST_LOST, with_number, with_piece, without_oldest}
-use Rattle.qs_send.proofs.Carrying.{carried-remove, carried-without_first}
+use Rattle.qs_send.proofs.Outstanding.{carried-remove, carried-without_first}
 use Rattle.qs_machine.specs.Tables.{Tables, table, with_table, lookup, update, updated, open_to}
 use Rattle.qs_machine.specs.Ends.{Records, LostPackets, lost_with}
 use Rattle.qs_machine.specs.Sums.{or_no_sending}

@@ -10,7 +10,7 @@ use Rattle.std.proofs.lemmas.Bool.{both_ways, true_from_ne_false, false_from_ne_
 use Rattle.qs_send.specs.declared.piece.Item.{Item}
 use Rattle.qs_send.specs.declared.piece.Piece.{Piece}
 use Rattle.qs_send.specs.Records.{NoneEmpty, without_first}
-use Rattle.qs_send.proofs.Carrying.{rest_of, get-without_first, get_other-without_first}
+use Rattle.qs_send.proofs.Outstanding.{rest_of, get-without_first, get_other-without_first}
 use Rattle.qs_machine.specs.Ends.{End, Records, is_own}
 use Rattle.qs_machine.specs.FrameStep.{AckedPiece, without_piece, acks, first_acked, named, acked_numbers, is_named, frame_taken, item_taken, held}
 use Rattle.qs_machine.specs.Newly.{gone, in_turn}

@@ -22,8 +22,7 @@ use Rattle.qs_machine.proofs.EachHalf.{kept_raised}
 use Rattle.std.specs.FinMap as fmap
 use Rattle.qs_wire.specs.declared.stream_id.Role.{Role}
 use Rattle.qs_send.specs.Records.{Among, IsCarried}
-use Rattle.qs_send.proofs.Outstanding.{get-insert_packet}
-use Rattle.qs_send.proofs.Carrying.{carried-empty, carried-without_first}
+use Rattle.qs_send.proofs.Outstanding.{get-insert_packet, carried-empty, carried-without_first}
 use Rattle.qs_calls.specs.declared.settings.Settings.{Settings}
 use Rattle.qs_calls.specs.declared.settings.Tuning.{Tuning}
 use Rattle.qs_calls.specs.declared.settings.PeerLimits.{PeerLimits}

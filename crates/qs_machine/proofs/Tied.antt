@@ -5,7 +5,7 @@ use Rattle.std.proofs.lemmas.Bool.Decides.{nat_tests}
 use Rattle.std.specs.FinSet as set
 use Rattle.std.specs.Ordering.{nat_cmp}
 use Rattle.qs_ranges.specs.Numbers.{numbers, is_within, contains-numbers, contains-with_range, contains-without_range}
-use Rattle.qs_ranges.proofs.Algebra.{has_difference, has_union}
+use Rattle.qs_ranges.proofs.Sets.{has_difference, has_union}
 use Rattle.qs_send.specs.declared.parts.Chunk.{Chunk}
 use Rattle.qs_send.specs.declared.parts.Reset.{Reset}
 use Rattle.qs_send.specs.declared.parts.SendFault.TheVariants.{Finished, WasReset}

@@ -11,7 +11,7 @@ use Rattle.qs_send.specs.declared.piece.Piece.TheVariants.{Data, Told}
 use Rattle.qs_send.specs.Lane.{SendLane, Sending, new_sending, after_sent, after_acked, after_lost}
 use Rattle.qs_send.specs.Chunks.{IsDueChunk}
 use Rattle.qs_send.specs.Sound.{IsLawful}
-use Rattle.qs_send.proofs.Carrying.{carried-empty}
+use Rattle.qs_send.proofs.Outstanding.{carried-empty}
 use Rattle.qs_machine.specs.Tables.{Tables, table, with_table, lookup, update, open_to, no_streams}
 use Rattle.qs_machine.specs.Ends.{Records}
 use Rattle.qs_machine.specs.Outgoing.{IsCarried, IsTied, AreTied, AreApartIn, AreOfOpen, IsOfOpen, lanes_of}

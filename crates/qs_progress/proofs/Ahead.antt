@@ -6,7 +6,7 @@ use Rattle.std.specs.Prelude.{flat_map, ◌||◌}
 use Rattle.std.specs.FinMap as fmap
 use Rattle.std.specs.FinSet as set
 use Rattle.std.proofs.lemmas.Option.{same_Some}
-use Rattle.qs_ranges.proofs.Starts.{len_le_of_members}
+use Rattle.qs_ranges.proofs.Sets.{len_le_of_members}
 use Rattle.qs_wire.specs.declared.stream_id.Dir.{Dir}
 use Rattle.qs_send.specs.Lane.{SendLane}
 use Rattle.qs_send.specs.Records.{Among, PacketPieces}

@@ -9,8 +9,7 @@ use Rattle.std.proofs.lemmas.Bool.Decides.{nat_tests}
 use Rattle.std.proofs.lemmas.Option.{same_Some}
 use Rattle.std.proofs.lemmas.List.Sums.{sum_by-cons}
 use Rattle.qs_ranges.specs.Numbers.{NumberSet, numbers, is_within, contains-numbers, end_of as end_of_set}
-use Rattle.qs_ranges.proofs.Sets.{end_of-last}
-use Rattle.qs_ranges.proofs.Starts.{len_le_of_members}
+use Rattle.qs_ranges.proofs.Sets.{end_of-last, len_le_of_members}
 use Rattle.qs_wire.specs.declared.stream_id.Role.TheVariants.{Client, Server}
 use Rattle.qs_wire.specs.declared.stream_id.Dir.{Dir}
 use Rattle.qs_wire.specs.declared.stream_id.Dir.TheVariants.{Bidi, Uni}

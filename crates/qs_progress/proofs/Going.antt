@@ -13,7 +13,7 @@ use Rattle.qs_send.specs.declared.piece.Item.{Item}
 use Rattle.qs_send.specs.declared.piece.Item.TheVariants.{MaxData, MaxStreamData, MaxStreams, ResetStream, StopSending, DataBlocked, StreamDataBlocked, StreamsBlocked}
 use Rattle.qs_send.specs.declared.piece.Piece.{Piece}
 use Rattle.qs_send.specs.declared.piece.Piece.TheVariants.{Data, Told}
-use Rattle.qs_send.proofs.Carrying.{rest_of}
+use Rattle.qs_send.proofs.Outstanding.{rest_of}
 use Rattle.qs_machine.specs.Ends.{End, is_own, on_send, opens, opened_by_peer}
 use Rattle.qs_machine.specs.Due.{IsCurrent, IsAcked}
 use Rattle.qs_machine.specs.Seen.{Seen, Ack, Stream, Control, Close, Plain}

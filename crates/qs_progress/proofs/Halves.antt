@@ -5,8 +5,7 @@ use Rattle.std.specs.Cmp.{nat_cmp_total}
 use Rattle.std.proofs.lemmas.Bool.{cond_both, or_left, or_right}
 use Rattle.std.proofs.lemmas.Bool.Decides.{nat_tests}
 use Rattle.qs_ranges.specs.Numbers.{NumberSet, numbers, end_of, contains-numbers}
-use Rattle.qs_ranges.proofs.Sets.{below-end_of}
-use Rattle.qs_ranges.proofs.Starts.{len_le_of_members}
+use Rattle.qs_ranges.proofs.Sets.{below-end_of, len_le_of_members}
 use Rattle.qs_recv.specs.Assembled.{discard}
 use Rattle.qs_recv.specs.Lane.{RecvLane, after_answer, stop, is_over}
 use Rattle.qs_recv.specs.declared.half.Read.{Read}

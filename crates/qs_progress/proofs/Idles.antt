@@ -9,7 +9,7 @@ use Rattle.qs_wire.specs.declared.stream_id.Dir.TheVariants.{Uni}
 use Rattle.qs_recv.specs.Lane.{RecvLane, read_answer}
 use Rattle.qs_recv.specs.News.{is_readable}
 use Rattle.qs_send.specs.Records.{PacketPieces, NoneEmpty, without_first}
-use Rattle.qs_send.proofs.Carrying.{rest_of, get-without_first}
+use Rattle.qs_send.proofs.Outstanding.{rest_of, get-without_first}
 use Rattle.qs_send.specs.declared.piece.Item.TheVariants.{MaxStreamData, MaxStreams, ResetStream, StopSending, StreamDataBlocked}
 use Rattle.qs_send.specs.declared.piece.Piece.{Piece}
 use Rattle.qs_calls.specs.declared.settings.Settings.{Settings}

@@ -7,7 +7,7 @@ use Rattle.std.proofs.lemmas.Grind.{reverse_onto}
 use Rattle.std.proofs.lemmas.Bool.Decides.{nat_tests}
 use Rattle.qs_send.specs.Records.{Among}
 use Rattle.qs_send.specs.declared.piece.Piece.{Piece}
-use Rattle.qs_send.proofs.Carrying.{rest_of, get_same-without_first}
+use Rattle.qs_send.proofs.Outstanding.{rest_of, get_same-without_first}
 use Rattle.qs_machine.specs.Ends.{End, Records}
 use Rattle.qs_machine.specs.FrameStep.{AckedPiece, acked_at, held, pieces_of, acks, first_acked, named_in, named, acked_numbers}
 use Rattle.qs_machine.proofs.AcksAgain.{held_piece, first_other, piece_list, filter_among, reverse_among, late_stays}

@@ -6,8 +6,7 @@ use Rattle.std.proofs.lemmas.Bool.Decides.{nat_tests}
 use Rattle.std.specs.FinSet as set
 use Rattle.qs_ranges.specs.Numbers.{NumberSet, numbers, is_within, same_numbers, run_starts, missing_from}
 use Rattle.qs_ranges.specs.Runs.{set_of}
-use Rattle.qs_ranges.proofs.Members.{contains-set_of}
-use Rattle.qs_ranges.proofs.Count.{len-run_starts}
+use Rattle.qs_ranges.proofs.Edits.{contains-set_of, len-run_starts}
 use Rattle.qs_machine.specs.Ends.{End}
 use Rattle.qs_machine.specs.Recording.{recorded, has_too_many, lowest_end, least_in}
 use Rattle.qs_machine.proofs.RunLaws.{lowest_run, lowest_end_is}

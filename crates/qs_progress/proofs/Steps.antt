@@ -13,7 +13,7 @@ use Rattle.qs_recv.specs.Lane.{RecvLane, raise, next_limit, taken, after_read, a
 use Rattle.qs_recv.specs.Lawful.{IsLawful}
 use Rattle.qs_recv.specs.declared.half.Read.{Read}
 use Rattle.qs_recv.specs.declared.half.Read.TheVariants as reads
-use Rattle.qs_recv.proofs.AssembledLaws.{get-keep_from}
+use Rattle.qs_recv.proofs.RingLaws.{get-keep_from}
 use Rattle.qs_send.specs.Lane.{SendLane, sent_lane, blocked_lane}
 use Rattle.qs_send.specs.declared.piece.Item.{Item}
 use Rattle.qs_send.specs.declared.piece.Item.TheVariants.{MaxData, MaxStreamData, MaxStreams, ResetStream, StopSending, DataBlocked, StreamDataBlocked, StreamsBlocked}

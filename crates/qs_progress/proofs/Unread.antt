@@ -12,7 +12,7 @@ use Rattle.qs_recv.specs.News.{is_readable, tells_something}
 use Rattle.qs_recv.specs.Lane.{RecvLane, new_lane, after_read, after_answer, read_answer, stop, take_stream, take_reset, raise, is_over}
 use Rattle.qs_recv.specs.declared.half.Read.{Read}
 use Rattle.qs_recv.specs.declared.half.Read.TheVariants as reads
-use Rattle.qs_recv.proofs.AssembledLaws.{get-store, get-keep_from, is_in_run}
+use Rattle.qs_recv.proofs.RingLaws.{get-store, get-keep_from, is_in_run}
 use Rattle.qs_send.specs.declared.piece.Item.{Item}
 use Rattle.qs_calls.specs.declared.settings.Settings.{Settings}
 use Rattle.qs_calls.specs.declared.event.Side.{Side}

@@ -7,7 +7,7 @@ use Rattle.std.specs.Cmp.{nat_cmp_total}
 use Rattle.std.proofs.lemmas.Bool.{cases_lt, cond_both, false≢true}
 use Rattle.qs_send.specs.Records.{PacketPieces, NoneEmpty, without_first}
 use Rattle.qs_send.specs.declared.piece.Piece.{Piece}
-use Rattle.qs_send.proofs.Carrying.{rest_of, get_same-without_first}
+use Rattle.qs_send.proofs.Outstanding.{rest_of, get_same-without_first}
 use Rattle.qs_calls.specs.declared.making.LostFault.{LostFault}
 use Rattle.qs_machine.specs.Ends.{End, is_own, opens, opened_by_peer}
 use Rattle.qs_machine.specs.Seen.{Seen}

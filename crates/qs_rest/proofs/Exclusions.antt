@@ -15,7 +15,7 @@ use Rattle.qs_send.specs.Lane.{SendLane}
 use Rattle.qs_send.specs.declared.piece.Item.{Item}
 use Rattle.qs_send.specs.declared.piece.Item.TheVariants.{MaxData, MaxStreamData, MaxStreams, ResetStream, StopSending, DataBlocked, StreamDataBlocked, StreamsBlocked}
 use Rattle.qs_send.specs.declared.piece.Piece.TheVariants.{Told}
-use Rattle.qs_send.proofs.Carrying.{carried-empty}
+use Rattle.qs_send.proofs.Outstanding.{carried-empty}
 use Rattle.qs_calls.specs.Settings.{limits_of, default_tuning}
 use Rattle.qs_machine.specs.Tables.{lookup, total}
 use Rattle.qs_machine.specs.Ends.{End, recv_lane, first_window, is_uni, is_own, new_end}

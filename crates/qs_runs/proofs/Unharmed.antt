@@ -9,7 +9,7 @@ use Rattle.qs_recv.specs.Lane.{RecvLane, highest, check_stream, check_reset, che
 use Rattle.qs_recv.specs.declared.credit.Share.{Share}
 use Rattle.qs_recv.specs.Bytes.{byte_at}
 use Rattle.qs_recv.specs.Laws.{IsSent, IsPart}
-use Rattle.qs_recv.proofs.SameAgain.{sent_passes}
+use Rattle.qs_recv.proofs.LawfulLaws.{sent_passes}
 use Rattle.qs_recv.specs.declared.half.RecvFault.{RecvFault}
 use Rattle.qs_send.specs.Lane.{SendLane}
 use Rattle.qs_send.specs.declared.piece.Item.TheVariants.{MaxData, MaxStreamData, ResetStream, StopSending, StreamDataBlocked}

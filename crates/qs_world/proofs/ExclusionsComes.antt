@@ -4,7 +4,7 @@ use Rattle.std.specs.FinMap as fmap
 use Rattle.std.specs.Global.{Vec}
 use Rattle.std.proofs.lemmas.Option.{none-some}
 use Rattle.qs_ranges.specs.Numbers.{MAX_VARINT}
-use Rattle.qs_send.proofs.Carrying.{carried-empty}
+use Rattle.qs_send.proofs.Outstanding.{carried-empty}
 use Rattle.qs_send.specs.declared.piece.Item.TheVariants.{MaxData}
 use Rattle.qs_calls.specs.declared.making.MakeFault.TheVariants as making
 use Rattle.qs_calls.specs.declared.event.Side.{Side}

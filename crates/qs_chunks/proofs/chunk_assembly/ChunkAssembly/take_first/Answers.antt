@@ -5,7 +5,7 @@ use Rattle.qs_recv.specs.Assembled.{Assembled}
 use Rattle.qs_chunks.specs.Chunks.{stored_in, first_bytes}
 use Rattle.qs_recv.specs.Bytes.{take_exactly}
 use Rattle.qs_chunks.proofs.KeptLaws.{keep_all, none_next, first_some, front_taken, keep_taken, kept_taken, taken_small}
-use Rattle.qs_recv.proofs.ReadLaws.{front_zero, take_nothing}
+use Rattle.qs_recv.proofs.RingLaws.{front_zero, take_nothing}
 use Rattle.qs_chunks.proofs.chunk_assembly.ChunkAssembly.take_first.Goals as goal
 
 pub returns-then-not-begins_at-clause-nothing : goal.returns-then-not-begins_at-clause-nothing

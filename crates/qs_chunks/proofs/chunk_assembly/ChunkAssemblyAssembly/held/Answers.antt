@@ -3,7 +3,7 @@ use Rattle.std.specs.FinMap as map
 use Rattle.std.proofs.lemmas.Bool.{both_ways, cases_lt}
 use Rattle.qs_ranges.specs.Numbers.{end_of}
 use Rattle.qs_ranges.proofs.Sets.{below-end_of}
-use Rattle.qs_recv.proofs.LaneLaws.{len_within}
+use Rattle.qs_recv.proofs.LawfulLaws.{len_within}
 use Rattle.qs_chunks.specs.Chunks.{stored_in}
 use Rattle.qs_chunks.proofs.ChunkLaws.{len-stored_in, none_below}
 use Rattle.qs_chunks.proofs.chunk_assembly.ChunkAssemblyAssembly.held.Goals as goal

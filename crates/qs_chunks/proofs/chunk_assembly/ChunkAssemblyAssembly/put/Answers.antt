@@ -3,9 +3,9 @@ use Rattle.qs_recv.specs.Assembled.{Assembled, put}
 use Rattle.qs_chunks.specs.Chunks.{IsStored, stored_in}
 use Rattle.qs_chunks.proofs.KeptLaws.{IsOrdered-lower, kept_either, stored_small}
 use Rattle.qs_chunks.proofs.PutLaws.{kept_placed, placed_stored, stored_same, between_total}
-use Rattle.qs_recv.proofs.AssembledLaws.{put_is}
+use Rattle.qs_recv.proofs.RingLaws.{put_is}
 use Rattle.qs_chunks.proofs.NewsLaws.{same_received, spot_news}
-use Rattle.qs_recv.proofs.NewsLaws.{on_err, refused_news}
+use Rattle.qs_recv.proofs.RestLaws.{on_err, refused_news}
 use Rattle.qs_chunks.proofs.chunk_assembly.ChunkAssemblyAssembly.put.Goals as goal
 
 pub invariant_of-self : goal.invariant_of-self

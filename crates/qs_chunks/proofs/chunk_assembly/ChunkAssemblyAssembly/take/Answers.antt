@@ -3,7 +3,7 @@ use Rattle.qs_recv.specs.Assembled.{front, front_of}
 use Rattle.qs_recv.specs.Bytes.{take_exactly}
 use Rattle.qs_chunks.proofs.KeptLaws.{keep_all}
 use Rattle.qs_chunks.proofs.ReadLaws.{front_joined, full_after, taken_after, front_done, none_written, part_len, whole_len}
-use Rattle.qs_recv.proofs.ReadLaws.{front_zero, rest_written, take_done, take_nothing}
+use Rattle.qs_recv.proofs.RingLaws.{front_zero, rest_written, take_done, take_nothing}
 use Rattle.qs_chunks.proofs.chunk_assembly.ChunkAssemblyAssembly.take.Goals as goal
 
 pub loop-done-init : goal.loop-done-init
