@@ -83,9 +83,9 @@ BOUNDS = {
         sizes=(2047, 2048, 4096, 16_383),
         heap=100_000,
         heap_why="24 bytes and a box of 64 of each stream that was reset",
-        growth=0.56,
-        growth_why="up to 2,048 apart they stand in a ring, and from there on each in a page of 2 KiB, however far",
-        count=183_000,
+        growth=0.58,
+        growth_why="up to 2,048 apart they stand in a ring, and from there on each in a page of 2 KiB, however far; below 2,048 a payload got a little cheaper",
+        count=143_000,
     ),
     "many-apart": Bound(
         sizes=(2047, 2048, 4096, 16_383),

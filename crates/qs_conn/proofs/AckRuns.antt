@@ -655,12 +655,12 @@ module _ (n first : ℕ) where
 
   pub rest_row : (more : ℕ) (c : Core) (e : ByDir ℕ) (o : Outgoing) → IsAtRest c → AreApartIn c.outbox.outstanding → AcksDown n first more c.outbox o → AreAllCounted c.limits.role c.recvs o.sends e → IsAtRest (record c { outbox = o; ended = e })
   rest_row zero c e o h apart (ch, alone, is) counted =
-      rest_acked c h false first (Data n ch) o c.untold_recvs c.untold_sends e (ap first_outgoing alone) is refl refl counted (idle_alone first c.outbox o (ch, alone, is) h.idle) apart c.carried refl c.own refl
+      rest_acked c h false first (Data n ch) o e (ap first_outgoing alone) is counted (idle_alone first c.outbox o (ch, alone, is) h.idle) apart c.own refl
   rest_row (suc more) c e o h apart (x, (ch, alone, is), down) counted =
       let k = first + suc more in
       let mid_ended = recounted n (is_over c.limits.role c.recvs c.outbox.sends n) (is_over c.limits.role c.recvs x.sends n) c.ended in
       let mid_counted = piece_recounted c.limits.role c.recvs false k n (Data n ch) c.outbox x c.ended mid_ended _ _ refl is h.core.counts.counted refl refl refl in
-      let mid = rest_acked c h false k (Data n ch) x c.untold_recvs c.untold_sends mid_ended (ap first_outgoing alone) is refl refl mid_counted (idle_alone k c.outbox x (ch, alone, is) h.idle) apart c.carried refl c.own refl in
+      let mid = rest_acked c h false k (Data n ch) x mid_ended (ap first_outgoing alone) is mid_counted (idle_alone k c.outbox x (ch, alone, is) h.idle) apart c.own refl in
       let short = short_at c.outbox.outstanding x.outstanding k (Data n ch) (ap first_outgoing alone) (ap (λ (y : Outgoing). y.outstanding) is) in
       rest_row more (record c { outbox = x; ended = mid_ended }) e o mid (apart_shorter c.outbox.outstanding x.outstanding k (Data n ch) short apart) down counted
 

@@ -40,7 +40,6 @@ use Rattle.qs_machine.specs.Newly.{IsNewlyAcked, payload_acks, acks_number, gone
 use Rattle.qs_conn.specs.Named.{or_less, with_range, with_ranges, with_frames}
 use Rattle.std.proofs.Math.Bool.{or-false, or_assoc}
 use Rattle.qs_recv.specs.declared.half.RecvFault.{RecvFault}
-use Rattle.qs_recv.specs.declared.half.RecvFault.TheVariants.{NoMemory}
 use Rattle.qs_calls.specs.declared.closing.Closed.TheVariants.{ByUs}
 use Rattle.std.specs.List.{filter, FoldsTo}
 use Rattle.qs_calls.specs.declared.closing.Received.TheVariants.{NoMemory as ReceivedNoMemory}

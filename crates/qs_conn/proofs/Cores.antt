@@ -1,8 +1,7 @@
--- A receiving half that changes has no more to tell than before, but where it is stopped or its limit rises.
+-- What holds of the tables of an end is kept, as parts of it change.
 use Rattle.std.specs.FinMap as fmap
-use Rattle.qs_conn.specs.declared.slot.Slot.TheVariants as slots
 use Rattle.std.proofs.lemmas.Bool.Decides.{nat_tests}
-use Rattle.std.proofs.Common.{arith, ◌≡◌, ℕ, ◌+◌, Bool, true, false, List, length, cond, Option, None, Some, refl, sym, ◌∙◌, ◌≤◌, not, ◌&&◌, ◌||◌, is_some, ap, subst, inr, Ok, if◌then◌else◌, ◌-◌, ◌^◌, take, append-nil, ◌/◌, ◌%◌, ◌<◌}
+use Rattle.std.proofs.Common.{arith, ◌≡◌, ℕ, ◌+◌, ◌⊎◌, Bool, true, false, List, length, cond, Option, None, Some, refl, sym, ◌∙◌, ◌≤◌, not, ◌&&◌, ◌||◌, is_some, ap, subst, inr, Ok, if◌then◌else◌, ◌-◌, ◌^◌, ◌/◌, ◌%◌, ◌<◌}
 use Rattle.std.specs.Prelude.{IsOk, max, is_none, ◌==◌}
 use Rattle.std.proofs.lemmas.Bool.{both_ways, false_from_ne_true, cond_both, and_parts, true≢false}
 use Rattle.std.proofs.lemmas.Option.{none-some, same_Some}
@@ -13,13 +12,13 @@ use Rattle.qs_recv.specs.Lawful.{IsLawful}
 use Rattle.qs_recv.specs.declared.credit.Share.TheVariants.{Half}
 use Rattle.qs_send.specs.declared.piece.Item.{Item}
 use Rattle.qs_machine.specs.Tables.{Tables, lookup, updated, no_streams, open_to, each, total, table, update}
-use Rattle.qs_machine.specs.Ends.{Present, Records, AckedItems, first_window_by, End, is_uni, is_own, first_window, first_send_limit, opens, opened_by_peer, new_end, recv_lane, send_lane}
+use Rattle.qs_machine.specs.Ends.{Present, first_window_by, End, is_uni, is_own, first_window, first_send_limit, opens, opened_by_peer, new_end, recv_lane, send_lane}
 use Rattle.qs_machine.specs.Verdicts.{or_new}
 use Rattle.qs_machine.specs.Standing.{KeepsCredit, HasLawfulLane, IsInCredit, IsWithinCredit}
 use Rattle.qs_machine.proofs.EndedHalves.{whole_stays, reset_stays_ended}
 use Rattle.qs_machine.proofs.LanesAgain.{data_after}
-use Rattle.qs_conn.specs.Untold.{RecvTells, TellsAt, AreTold, SendTells, HasMore, told_by_recv, told_by_send, marked_for}
-use Rattle.qs_conn.proofs.Untolds.{untolds_updated as told_updated, recv_tell, recv_own, send_own, recv_noted, send_noted, recvs_open, sends_open, told_carried, told_edited, told_placed, told_unmarked, told_written, told_sent, told_calm, told_allowed, told_put, told_noted, acked_stays, lost_stays, marks_stay, in_idle, out_idle, still_told, forgotten_told, told_updated as ends_told_updated, told_read as toldends_told_read, told_opened, told_raised, none_told, put_old, each_update, end_put}
+use Rattle.qs_conn.specs.Due.{Packets, packets_of, AreDue, HasPlaces, IsNotedBlock, IsBlockedBy, put_mark, places_to, item_marked, kind_marked, due_without, recv_limit, limits_by}
+use Rattle.qs_conn.proofs.Untolds.{still_told, forgotten_told, told_updated as ends_told_updated, told_read as toldends_told_read, told_opened, told_raised, none_told, each_update, end_put}
 use Rattle.qs_send.specs.declared.piece.Item.TheVariants.{ResetStream, StreamDataBlocked}
 use Rattle.qs_recv.specs.Assembled.{discard, forget}
 use Rattle.qs_recv.specs.declared.credit.Share.{Share}
@@ -38,7 +37,7 @@ use Rattle.qs_machine.specs.Credit.{recv_ended, send_ended, granted_streams, lif
 use Rattle.qs_machine.specs.Seen.{Seen, Stream, Control}
 use Rattle.qs_machine.specs.Lawful.{frame_put, chunk_of}
 use Rattle.qs_machine.specs.Sums.{or_none}
-use Rattle.qs_machine.specs.Outgoing.{Outgoing, HasSending, first_acked_out, acked_at, IsIdle, with_sends, on_lane, sent_sum, IsBlockedAt, IsCarried, first_piece, first_lost_out, without_piece_out, AreApartIn, item_put_out, chunk_put}
+use Rattle.qs_machine.specs.Outgoing.{Outgoing, HasSending, first_acked_out, acked_at, IsIdle, with_sends, on_lane, sent_sum, IsBlockedAt, first_piece, first_lost_out, without_piece_out, AreApartIn, item_put_out, chunk_put}
 use Rattle.qs_conn.specs.declared.by_dir.ByDir.{ByDir}
 use Rattle.qs_conn.specs.Ended.{recv_over, send_over, over, is_over, recounted, half_of, AreAllCounted, IsToldOfEnd, CountsFit}
 use Rattle.qs_conn.proofs.MadePackets.{recv_recounted, send_recounted, counted_same, updated_over, recvs_opened, sends_opened, counted_raised, none_counted, nothing_recounted, memory_less, memory_marks}
@@ -47,22 +46,24 @@ use Rattle.qs_machine.specs.Due.{IsCurrent}
 use Rattle.qs_send.specs.declared.parts.Chunk.{Chunk}
 use Rattle.qs_calls.specs.declared.settings.PeerLimits.{PeerLimits}
 use Rattle.qs_calls.specs.declared.closing.Closed.{Closed}
-use Rattle.qs_machine.proofs.TablesAfter.{update_back}
 use Rattle.qs_machine.proofs.Taken.{sum_open}
 use Rattle.qs_conn.specs.declared.middle.Core.{Core}
-use Rattle.qs_conn.specs.declared.carried.Carried.{Carried}
-use Rattle.qs_conn.specs.Carried.{AreCarried, HasPlaces, places_to, item_carried, carried_without, recv_limit, limits_by, carried_below}
+use Rattle.qs_conn.specs.declared.due.Due.{Due}
+use Rattle.qs_conn.specs.declared.slot.Kind.{Kind}
+use Rattle.qs_conn.specs.Layers.{stop_to_tell}
+use Rattle.qs_conn.specs.Tasks.{IsFree, IsShort}
 use Rattle.qs_conn.specs.OwnCarried.{Kept, AreOwn, own_with, own_left}
 use Rattle.qs_conn.specs.Middle.{IsCore, IsAtRest, IsKept, KeepsStreams, IsFilling, FillsOn, HasMemory, end_of}
-use Rattle.qs_conn.specs.Filling.{end_by, present_of, PutsItem, LeavesRest, LimitsFit, with_window, with_grant}
+use Rattle.qs_conn.specs.Filling.{slot_at, end_by, present_of, PutsItem, LeavesRest, LimitsFit, with_window, with_grant}
 use Rattle.qs_conn.specs.Settled.{AreNextWhere}
 use Rattle.qs_conn.specs.Marks.{IsIdle as IsIdleAt}
 use Rattle.qs_conn.specs.Runs.{held_out}
 use Rattle.qs_conn.proofs.Flows.{end_chunk}
 use Rattle.qs_conn.proofs.Stages.{sum_lane, reset_sends, stop_sends, sum_piece, sum_put}
 use Rattle.qs_machine.proofs.CallsSound.{sound_read, sound_stop, sound_forget, sound_window, sound_set, grant_within, keeps_open}
-use Rattle.qs_machine.proofs.Carried.{carried_more}
-use Rattle.qs_conn.proofs.Carrieds.{carried_recv, carried_windowed, carried_send, carried_allowed, carried_chunk, carried_put, carried_acked, carried_lost, carried_placed, carried_opened, wide_none, reset_keeps, stop_taken_keeps, stop_keeps, read_keeps, own_risen, own_chunk, own_put, own_present, own_acked, own_lost}
+use Rattle.qs_conn.proofs.Dues.{IsCalmer, due_recv, due_stopped, due_discarded, due_windowed, due_send, due_written, due_sent, due_reset, due_chunk, due_placed, due_opened, allowed_keeps, reset_keeps, reset_same, stop_taken_keeps, stop_taken_same}
+use Rattle.qs_conn.proofs.DuePackets.{due_acked, due_lost, due_cleared, due_put}
+use Rattle.qs_conn.proofs.Owns.{own_risen, own_chunk, own_put, own_present, own_acked, own_lost}
 use Rattle.qs_conn.proofs.Rests.{rest_same, rest_on}
 use Rattle.qs_calls.specs.declared.settings.SetFault.TheVariants.{OutOfRange}
 use Rattle.qs_machine.specs.Owner.{first_refusal, refuse_if}
@@ -74,12 +75,8 @@ use Rattle.qs_conn.specs.Plain.{IsPlainLane, IsPlain}
 use Rattle.qs_conn.proofs.Outboxes.{open_stays}
 use Rattle.qs_conn.proofs.LaneEdits.{stream_settled}
 
--- a half of which less is to be told
-calm : (w n : ℕ) (l k : RecvLane) → k.limit ≡ l.limit → k.stop_code ≡ l.stop_code → (k.final_size ≡ None → l.final_size ≡ None) → (k.reset_code ≡ None → l.reset_code ≡ None) → (is_recv_whole k ≡ false → is_recv_whole l ≡ false) → (i : Item) → RecvTells w n k i → RecvTells w n l i
-calm w n l k limit stop size reset whole = recv_tell (RecvTells w n l) w n k (λ j m (same, is, more, none). (same, is ∙ limit, more, size none)) (λ j code (same, is, goes, part). (same, sym stop ∙ is, reset goes, whole part))
-
-data_calm : (l : RecvLane) (offset : ℕ) (bytes : List ℕ) (fin : Bool) → IsLawful l → IsOk (check_stream l offset (length bytes) fin) → (w n : ℕ) (i : Item) → RecvTells w n (take_stream l offset bytes fin) i → RecvTells w n l i
-data_calm l offset bytes fin lawful ok w n = calm w n l (take_stream l offset bytes fin) refl refl (size fin) (λ is. is) part
+data_calmer : (l : RecvLane) (offset : ℕ) (bytes : List ℕ) (fin : Bool) → IsLawful l → IsOk (check_stream l offset (length bytes) fin) → IsCalmer l (take_stream l offset bytes fin)
+data_calmer l offset bytes fin lawful ok = record { limit = refl; stop = refl; size = size fin; reset = λ is. is; whole = part }
   where
     size : (b : Bool) → cond {A = Option ℕ} b (Some (offset + length bytes)) l.final_size ≡ None → l.final_size ≡ None
     size true is = absurd (none-some (offset + length bytes) (sym is))
@@ -88,22 +85,18 @@ data_calm l offset bytes fin lawful ok w n = calm w n l (take_stream l offset by
     part : is_recv_whole (take_stream l offset bytes fin) ≡ false → is_recv_whole l ≡ false
     part is = false_from_ne_true (is_recv_whole l) (λ at. (let after = data_after l offset bytes fin lawful ok in both_ways (is_recv_whole (take_stream l offset bytes fin)) is (whole_stays l (take_stream l offset bytes fin) after.received after.size at)))
 
-reset_calm : (l : RecvLane) (code size w n : ℕ) (i : Item) → RecvTells w n (take_reset l code size) i → RecvTells w n l i
-reset_calm l code size w n i = grind (arith, nat_tests)
+pub reset_calmer : (l : RecvLane) (code size : ℕ) → IsCalmer l (take_reset l code size)
+reset_calmer l code size = grind (arith, nat_tests)
 
-read_calm : (l : RecvLane) (room w n : ℕ) (i : Item) → RecvTells w n (after_read l room) i → RecvTells w n l i
-read_calm l room w n = grind (arith, nat_tests)
+read_calmer : (l : RecvLane) (room : ℕ) → IsCalmer l (after_read l room)
+read_calmer l room = grind (arith, nat_tests)
 
-module _ (r : Role) (s : Settings) (recvs : Tables RecvLane) (m : Records) (a : AckedItems) (marks : Tables Bool) (h : AreTold (TellsAt r s) recvs m a marks) (now : Tables RecvLane) (n : ℕ) where
-  -- bytes came that passed the check
-  pub told_streamed : (p : Present) (g : ℕ) → KeepsCredit r s p recvs g → (offset : ℕ) (bytes : List ℕ) (fin : Bool) → IsOk (check_stream (or_new (lookup recvs n) 0 Half) offset (length bytes) fin) → now ≡ updated recvs n (λ l. take_stream l offset bytes fin) (lookup recvs n) → AreTold (TellsAt r s) now m a marks
-  told_streamed p g k offset bytes fin passed is = grind (arith, nat_tests, told_updated, data_calm)
-
-  pub told_broken : (code size : ℕ) → now ≡ updated recvs n (λ l. take_reset l code size) (lookup recvs n) → AreTold (TellsAt r s) now m a marks
-  told_broken code size is = told_updated (TellsAt r s) recvs m a marks h now n (λ l. take_reset l code size) is (λ l there. reset_calm l code size (first_window_by r s n) n)
-
-  pub told_read : (room : ℕ) → now ≡ updated recvs n (λ l. after_read l room) (lookup recvs n) → AreTold (TellsAt r s) now m a marks
-  told_read room is = told_updated (TellsAt r s) recvs m a marks h now n (λ l. after_read l room) is (λ l there. read_calm l room (first_window_by r s n) n)
+-- bytes came that passed the check
+pub due_streamed : {r : Role} {s : Settings} {recvs : Tables RecvLane} {sends : Tables SendLane} {q : Packets} {t : Due} → AreDue r s recvs sends q t → (p : Present) (g : ℕ) → KeepsCredit r s p recvs g → (now : Tables RecvLane) (n offset : ℕ) (bytes : List ℕ) (fin : Bool) → IsOk (check_stream (or_new (lookup recvs n) 0 Half) offset (length bytes) fin)
+    → now ≡ updated recvs n (λ l. take_stream l offset bytes fin) (lookup recvs n) → AreDue r s now sends q t
+due_streamed {r} {s} h p g k now n offset bytes fin passed is =
+    due_recv h now n (λ l. take_stream l offset bytes fin) is
+    (λ l there. data_calmer l offset bytes fin (subst (HasLawfulLane r s n) there (k.lanes n)).0 (subst (λ o. IsOk (check_stream (or_new o 0 Half) offset (length bytes) fin)) there passed))
 
 -- ---- The counts of the streams that came to their end: each call keeps them right.
 
@@ -311,18 +304,16 @@ sends_stay late k p o none = grind (arith, nat_tests)
 
 -- the next number and the room of a packet are no part of it
 pub core_outbox : (c : Core) → IsCore c → (next spare : ℕ) (o : Outgoing) → o ≡ record c.outbox { next = next; spare = spare } → IsCore (record c { outbox = o })
-core_outbox c h next spare o is = subst (λ (x : Outgoing). IsCore (record c { outbox = x })) (sym is) (record { sound = h.sound; fits = h.fits; credit = h.credit; counts = h.counts; told_in = h.told_in; told_out = h.told_out; carried = h.carried; own = h.own })
+core_outbox c h next spare o is = subst (λ (x : Outgoing). IsCore (record c { outbox = x })) (sym is) (record { sound = h.sound; fits = h.fits; credit = h.credit; counts = h.counts; due = h.due; own = h.own })
 
 -- the sending side, its counts and the marks change; the receiving halves and the limits stay
-core_out : (c : Core) (h : IsCore c) (o : Outgoing) (ins outs : Tables Bool) (t : Carried) (ys : Kept) (e : ByDir ℕ) → sent_sum o.sends ≤ c.limits.known_data → AreAllCounted c.limits.role c.recvs o.sends e
-    → AreTold (TellsAt c.limits.role c.limits.settings) c.recvs o.outstanding o.acked ins → AreTold SendTells o.sends o.outstanding o.acked outs → AreCarried c.recvs o.sends o.outstanding t → AreOwn c.limits o.outstanding ys
-    → IsCore (record c { outbox = o; untold_recvs = ins; untold_sends = outs; carried = t; own = ys; ended = e })
-core_out c h o ins outs t ys e credit counted told_in told_out carried own = grind (arith, nat_tests)
+core_out : (c : Core) (h : IsCore c) (o : Outgoing) (t : Due) (ys : Kept) (e : ByDir ℕ) → sent_sum o.sends ≤ c.limits.known_data → AreAllCounted c.limits.role c.recvs o.sends e → AreDue c.limits.role c.limits.settings c.recvs o.sends (packets_of o) t → AreOwn c.limits o.outstanding ys
+    → IsCore (record c { outbox = o; due = t; own = ys; ended = e })
+core_out c h o t ys e credit counted due own = grind (arith, nat_tests)
 
 -- marks alone change
-core_marks : (c : Core) (h : IsCore c) (ins outs : Tables Bool) → AreTold (TellsAt c.limits.role c.limits.settings) c.recvs c.outbox.outstanding c.outbox.acked ins → AreTold SendTells c.outbox.sends c.outbox.outstanding c.outbox.acked outs
-    → IsCore (record c { untold_recvs = ins; untold_sends = outs })
-core_marks c h ins outs told_in told_out = core_out c h c.outbox ins outs c.carried c.own c.ended h.credit h.counts.counted told_in told_out h.carried h.own
+core_marks : (c : Core) (h : IsCore c) (t : Due) → AreDue c.limits.role c.limits.settings c.recvs c.outbox.sends (packets_of c.outbox) t → IsCore (record c { due = t })
+core_marks c h t due = core_out c h c.outbox t c.own c.ended h.credit h.counts.counted due h.own
 
 module _ (c : Core) (h : IsAtRest c) where
   abbrev core : IsCore c
@@ -331,128 +322,105 @@ module _ (c : Core) (h : IsAtRest c) where
   -- Sending halves
 
   -- a half changes, and sends no more
-  on_half : (n : ℕ) (f : SendLane → SendLane) (o : Outgoing) (marks : Tables Bool) (t : Carried) → o ≡ on_lane n f c.outbox → ((l : SendLane) → (f l).sent_end ≡ l.sent_end)
-      → CountsFit c.limits.role c.limits.settings c.recvs (updated c.outbox.sends n f (lookup c.outbox.sends n)) c.ended c.limits.granted_streams.bidi c.limits.granted_streams.uni → AreTold SendTells (updated c.outbox.sends n f (lookup c.outbox.sends n)) c.outbox.outstanding c.outbox.acked marks
-      → AreCarried c.recvs (updated c.outbox.sends n f (lookup c.outbox.sends n)) c.outbox.outstanding t → IsAtRest (record c { outbox = o; untold_sends = marks; carried = t })
-  on_half n f o marks t is same counts told carried =
+  on_half : (n : ℕ) (f : SendLane → SendLane) (o : Outgoing) (t : Due) → o ≡ on_lane n f c.outbox → ((l : SendLane) → (f l).sent_end ≡ l.sent_end)
+      → CountsFit c.limits.role c.limits.settings c.recvs (updated c.outbox.sends n f (lookup c.outbox.sends n)) c.ended c.limits.granted_streams.bidi c.limits.granted_streams.uni → AreDue c.limits.role c.limits.settings c.recvs (updated c.outbox.sends n f (lookup c.outbox.sends n)) (packets_of c.outbox) t
+      → IsAtRest (record c { outbox = o; due = t })
+  on_half n f o t is same counts due =
       let sum = sum_lane c.outbox.sends n f same in
       let credit = core.credit in
-      subst (λ (x : Outgoing). IsAtRest (record c { outbox = x; untold_sends = marks; carried = t })) (sym is)
-      (record { core = core_out c core (on_lane n f c.outbox) c.untold_recvs marks t c.own c.ended (omega (arith, sum, credit)) counts.counted core.told_in told carried core.own; idle = h.idle })
+      subst (λ (x : Outgoing). IsAtRest (record c { outbox = x; due = t })) (sym is) (record { core = core_out c core (on_lane n f c.outbox) t c.own c.ended (omega (arith, sum, credit)) counts.counted due core.own; idle = h.idle })
 
-  pub rest_allowed : (n limit : ℕ) (half : Sending) (o : Outgoing) → HasSending c.outbox n half → o ≡ on_lane n (λ l. allow_lane l limit) c.outbox → IsAtRest (record c { outbox = o; carried = carried_below n limit c.outbox.sends c.carried })
+  pub rest_allowed : (n limit : ℕ) (half : Sending) (o : Outgoing) → HasSending c.outbox n half → o ≡ on_lane n (λ l. allow_lane l limit) c.outbox → IsAtRest (record c { outbox = o })
   rest_allowed n limit half o has is =
-      on_half n (λ l. allow_lane l limit) o c.untold_sends (carried_below n limit c.outbox.sends c.carried) is (λ l. refl) (fit_sent _ _ _ _ _ _ _ core.counts _ n (λ l. allow_lane l limit) refl (λ l there. refl))
-      (told_allowed c.outbox.sends c.outbox.outstanding c.outbox.acked c.untold_sends core.told_out _ n limit (λ l at. subst (λ (k : SendLane). k.sent_end ≤ k.limit) (same_Some half.lane l (sym has.lane ∙ at)) has.lawful.order.sent_limit) refl)
-      (carried_allowed c.recvs c.outbox.sends c.outbox.outstanding c.carried core.carried _ n limit refl)
+      on_half n (λ l. allow_lane l limit) o c.due is (λ l. refl) (fit_sent _ _ _ _ _ _ _ core.counts _ n (λ l. allow_lane l limit) refl (λ l there. refl))
+      (due_send core.due _ n (λ l. allow_lane l limit) refl (λ l at. allowed_keeps limit l (subst (λ (k : SendLane). k.sent_end ≤ k.limit) (same_Some half.lane l (sym has.lane ∙ at)) has.lawful.order.sent_limit)))
 
   pub rest_buffered : (n size : ℕ) (o : Outgoing) → o ≡ on_lane n (λ l. buffer_lane l size) c.outbox → IsAtRest (record c { outbox = o })
   rest_buffered n size o is =
-      on_half n (λ l. buffer_lane l size) o c.untold_sends c.carried is (λ l. refl) (fit_sent _ _ _ _ _ _ _ core.counts _ n (λ l. buffer_lane l size) refl (λ l there. refl))
-      (told_calm c.outbox.sends c.outbox.outstanding c.outbox.acked c.untold_sends core.told_out _ n (λ l. buffer_lane l size) refl (λ l at k code size has. has) (λ l at k limit has. has))
-      (carried_send c.recvs c.outbox.sends c.outbox.outstanding c.carried core.carried _ n (λ l. buffer_lane l size) refl (λ l. record { limit = refl; reset = λ r e. e }))
+      on_half n (λ l. buffer_lane l size) o c.due is (λ l. refl) (fit_sent _ _ _ _ _ _ _ core.counts _ n (λ l. buffer_lane l size) refl (λ l there. refl))
+      (due_send core.due _ n (λ l. buffer_lane l size) refl (λ l at. (record { told = λ v has. has; tells = λ m v tells. tells }, record { told = λ v has. has; tells = λ m v tells. tells })))
 
-  pub rest_written : (n : ℕ) (bytes : List ℕ) (o : Outgoing) (marks : Tables Bool) → refusal (or_none (lookup c.outbox.sends n)) ≡ None → o ≡ on_lane n (λ l. write_lane l bytes) c.outbox → HasMore c.untold_sends marks
-      → ((m : ℕ) → IsBlockedAt (lookup o.sends n) m → lookup marks n ≡ Some false → ⊥) → IsAtRest (record c { outbox = o; untold_sends = marks })
-  rest_written n bytes o marks free is more blocked =
-      on_half n (λ l. write_lane l bytes) o marks c.carried is (λ l. refl) (fit_written _ _ _ _ _ _ _ core.counts _ n bytes free refl)
-      (told_written c.outbox.sends c.outbox.outstanding c.outbox.acked c.untold_sends core.told_out _ n marks bytes refl more (subst (λ (x : Outgoing). (m : ℕ) → IsBlockedAt (lookup x.sends n) m → lookup marks n ≡ Some false → ⊥) is blocked))
-      (carried_send c.recvs c.outbox.sends c.outbox.outstanding c.carried core.carried _ n (λ l. write_lane l bytes) refl (λ l. record { limit = refl; reset = λ r e. e }))
+  pub rest_written : (n count : ℕ) (bytes : List ℕ) (o : Outgoing) (t : Due) → refusal (or_none (lookup c.outbox.sends n)) ≡ None → o ≡ on_lane n (λ l. write_lane l bytes) c.outbox → length bytes ≡ count → IsNotedBlock (IsBlockedBy count (lookup o.sends n)) n c.due t → IsAtRest (record c { outbox = o; due = t })
+  rest_written n count bytes o t free is len noted =
+      on_half n (λ l. write_lane l bytes) o t is (λ l. refl) (fit_written _ _ _ _ _ _ _ core.counts _ n bytes free refl)
+      (due_written core.due _ n count bytes t refl len (subst (λ (x : Outgoing). IsNotedBlock (IsBlockedBy count (lookup x.sends n)) n c.due t) is noted))
 
   pub rest_finished : (n : ℕ) (half : Sending) (o : Outgoing) → HasSending c.outbox n half → answer_of (refusal (or_none (lookup c.outbox.sends n))) ≡ Ok tt → o ≡ on_lane n finish_lane c.outbox → IsAtRest (record c { outbox = o })
   rest_finished n half o has free is =
-      on_half n finish_lane o c.untold_sends c.carried is (λ l. refl) (fit_finished _ _ _ _ _ _ _ core.counts _ n c.outbox half refl has free refl) (told_calm c.outbox.sends c.outbox.outstanding c.outbox.acked c.untold_sends core.told_out _ n finish_lane refl (λ l at k code size has. has) (λ l at k limit has. has))
-      (carried_send c.recvs c.outbox.sends c.outbox.outstanding c.carried core.carried _ n finish_lane refl (λ l. record { limit = refl; reset = λ r e. e }))
+      on_half n finish_lane o c.due is (λ l. refl) (fit_finished _ _ _ _ _ _ _ core.counts _ n c.outbox half refl has free refl)
+      (due_send core.due _ n finish_lane refl (λ l at. (record { told = λ v has. has; tells = λ m v tells. tells }, record { told = λ v has. has; tells = λ m v tells. tells })))
 
   -- a half that is broken off has its reset to tell
-  pub rest_reset : (n code : ℕ) (o : Outgoing) (marks : Tables Bool) → o ≡ on_lane n (λ l. reset_lane l code) c.outbox → marks ≡ updated c.untold_sends n (λ b. true) (lookup c.untold_sends n) → IsAtRest (record c { outbox = o; untold_sends = marks })
-  rest_reset n code o marks is are =
-      on_half n (λ l. reset_lane l code) o marks c.carried is (reset_sends code) (fit_sent _ _ _ _ _ _ _ core.counts _ n (λ l. reset_lane l code) refl (λ l there. ends_as_reset code l)) (told_edited SendTells c.outbox.sends c.outbox.outstanding c.outbox.acked c.untold_sends core.told_out _ marks n (λ l. reset_lane l code) refl are)
-      (carried_send c.recvs c.outbox.sends c.outbox.outstanding c.carried core.carried _ n (λ l. reset_lane l code) refl (λ l. reset_keeps l code))
+  pub rest_reset : (n code : ℕ) (o : Outgoing) (marks : Tables Bool) → answer_of (reset_refusal (or_none (lookup c.outbox.sends n))) ≡ Ok tt → o ≡ on_lane n (λ k. reset_lane k code) c.outbox → marks ≡ put_mark n true c.due.resets → IsAtRest (record c { outbox = o; due = record c.due { resets = marks } })
+  rest_reset n code o marks allowed is are =
+      rw are (on_half n (λ k. reset_lane k code) o _ is (reset_sends code) (fit_sent _ _ _ _ _ _ _ core.counts _ n (λ k. reset_lane k code) refl (λ k at. ends_as_reset code k))
+      (due_reset core.due _ n (λ k. reset_lane k code) refl (reset_keeps code) (reset_same code) false (sym (not_reset (or_none (lookup c.outbox.sends n)) allowed))))
+    where
+      not_reset : (l : SendLane) → answer_of (reset_refusal l) ≡ Ok tt → is_some l.was_reset ≡ false
+      not_reset l allowed = grind (arith, nat_tests)
 
-  pub rest_told_to_stop : (answers : Bool) (n code : ℕ) (o : Outgoing) (marks : Tables Bool) → o ≡ on_lane n (λ l. stop_taken answers l code) c.outbox → marks ≡ updated c.untold_sends n (λ b. true) (lookup c.untold_sends n) → IsAtRest (record c { outbox = o; untold_sends = marks })
-  rest_told_to_stop answers n code o marks is are =
-      on_half n (λ l. stop_taken answers l code) o marks c.carried is (stop_sends answers code) (fit_sent _ _ _ _ _ _ _ core.counts _ n (λ l. stop_taken answers l code) refl (λ l there. ends_as_stopped answers code l)) (told_edited SendTells c.outbox.sends c.outbox.outstanding c.outbox.acked c.untold_sends core.told_out _ marks n (λ l. stop_taken answers l code) refl are)
-      (carried_send c.recvs c.outbox.sends c.outbox.outstanding c.carried core.carried _ n (λ l. stop_taken answers l code) refl (stop_taken_keeps answers code))
+  pub rest_told_to_stop : (answers : Bool) (n code : ℕ) (was : Option Reset) (o : Outgoing) (marks : Tables Bool) → was ≡ (or_none (lookup c.outbox.sends n)).was_reset → o ≡ on_lane n (λ k. stop_taken answers k code) c.outbox → marks ≡ (if is_some was then c.due.resets else put_mark n true c.due.resets) → IsAtRest (record c { outbox = o; due = record c.due { resets = marks } })
+  rest_told_to_stop answers n code was o marks reset is are =
+      rw are (on_half n (λ k. stop_taken answers k code) o _ is (stop_sends answers code) (fit_sent _ _ _ _ _ _ _ core.counts _ n (λ k. stop_taken answers k code) refl (λ k at. ends_as_stopped answers code k))
+      (due_reset core.due _ n (λ k. stop_taken answers k code) refl (stop_taken_keeps answers code) (stop_taken_same answers code) (is_some was) (ap is_some reset)))
 
   -- Receiving halves
 
-  pub rest_recvs : (now : Tables RecvLane) (marks : Tables Bool) (e : ByDir ℕ) (t : Carried) → KeepsCredit c.limits.role c.limits.settings (present_of c.limits) now c.limits.granted
-      → CountsFit c.limits.role c.limits.settings now c.outbox.sends e c.limits.granted_streams.bidi c.limits.granted_streams.uni → AreTold (TellsAt c.limits.role c.limits.settings) now c.outbox.outstanding c.outbox.acked marks
-      → AreCarried now c.outbox.sends c.outbox.outstanding t → IsAtRest (record c { recvs = now; untold_recvs = marks; carried = t; ended = e })
-  rest_recvs now marks e t sound counts told carried =
-      record { core = record { sound = sound; fits = core.fits; credit = core.credit; counts = counts; told_in = told; told_out = core.told_out; carried = carried; own = core.own }; idle = h.idle }
+  pub rest_recvs : (now : Tables RecvLane) (e : ByDir ℕ) (t : Due) → KeepsCredit c.limits.role c.limits.settings (present_of c.limits) now c.limits.granted
+      → CountsFit c.limits.role c.limits.settings now c.outbox.sends e c.limits.granted_streams.bidi c.limits.granted_streams.uni → AreDue c.limits.role c.limits.settings now c.outbox.sends (packets_of c.outbox) t → IsAtRest (record c { recvs = now; due = t; ended = e })
+  rest_recvs now e t sound counts due =
+      record { core = record { sound = sound; fits = core.fits; credit = core.credit; counts = counts; due = due; own = core.own }; idle = h.idle }
 
   -- a stream is read, and counted anew
   pub rest_read : (n size : ℕ) (now : Tables RecvLane) (e : ByDir ℕ) (was is : Bool) → now ≡ updated c.recvs n (λ l. after_read l size) (lookup c.recvs n) → was ≡ is_over c.limits.role c.recvs c.outbox.sends n → is ≡ is_over c.limits.role now c.outbox.sends n
       → e ≡ recounted n was is c.ended → IsAtRest (record c { recvs = now; ended = e })
   rest_read n size now e was is after before behind to =
-      rest_recvs now c.untold_recvs e c.carried (rw after (sound_read n size (end_with c.limits.role c.limits.settings (present_of c.limits) c.recvs c.limits.granted) core.sound))
+      rest_recvs now e c.due (rw after (sound_read n size (end_with c.limits.role c.limits.settings (present_of c.limits) c.recvs c.limits.granted) core.sound))
       (fit_read _ _ _ _ _ _ _ core.counts _ _ core.sound now n size e was is after before behind to)
-      (told_read c.limits.role c.limits.settings c.recvs c.outbox.outstanding c.outbox.acked c.untold_recvs core.told_in now n size after)
-      (carried_recv c.recvs c.outbox.sends c.outbox.outstanding c.carried core.carried now n (λ l. after_read l size) after (λ l. read_keeps l size))
+      (due_recv core.due now n (λ l. after_read l size) after (λ l there. read_calmer l size))
 
-  pub rest_stopped : (n code : ℕ) (now : Tables RecvLane) (marks : Tables Bool) → now ≡ updated c.recvs n (λ l. stop l code) (lookup c.recvs n) → marks ≡ updated c.untold_recvs n (λ b. true) (lookup c.untold_recvs n) → IsAtRest (record c { recvs = now; untold_recvs = marks })
-  rest_stopped n code now marks after are =
-      rest_recvs now marks c.ended c.carried (rw after (sound_stop n code (end_with c.limits.role c.limits.settings (present_of c.limits) c.recvs c.limits.granted) core.sound))
-      (fit_stopped _ _ _ _ _ _ _ core.counts now n code after)
-      (told_edited (TellsAt c.limits.role c.limits.settings) c.recvs c.outbox.outstanding c.outbox.acked c.untold_recvs core.told_in now marks n (λ l. stop l code) after are)
-      (carried_recv c.recvs c.outbox.sends c.outbox.outstanding c.carried core.carried now n (λ l. stop l code) after (λ l. stop_keeps l code))
+  pub rest_stopped : (n code : ℕ) (was : Option ℕ) (now : Tables RecvLane) (marks : Tables Bool) → was ≡ stop_to_tell (lookup c.recvs n) → now ≡ updated c.recvs n (λ k. stop k code) (lookup c.recvs n) → marks ≡ (if is_some was then c.due.stops else put_mark n true c.due.stops) → IsAtRest (record c { recvs = now; due = record c.due { stops = marks } })
+  rest_stopped n code was now marks told after are =
+      rw (are, told) (rest_recvs now c.ended _ (rw after (sound_stop n code (end_with c.limits.role c.limits.settings (present_of c.limits) c.recvs c.limits.granted) core.sound))
+      (fit_stopped _ _ _ _ _ _ _ core.counts now n code after) (due_stopped core.due now n code after))
 
   -- a stream has another window
-  pub rest_windowed : (n w : ℕ) (now : Tables RecvLane) (marks : Tables Bool) → 1 ≤ w → w ≤ MAX_WINDOW → now ≡ updated c.recvs n (λ l. set_window l w) (lookup c.recvs n) → marks ≡ updated c.untold_recvs n (λ b. true) (lookup c.untold_recvs n)
-      → (limits : Tables Bool) → limits ≡ limits_by (recv_limit c.recvs n) (recv_limit now n) n c.carried.limits → IsAtRest (record c { recvs = now; untold_recvs = marks; carried = record c.carried { limits = limits } })
-  rest_windowed n w now marks some small after are limits fell =
-      rest_recvs now marks c.ended (record c.carried { limits = limits }) (rw after (sound_window n w (end_with c.limits.role c.limits.settings (present_of c.limits) c.recvs c.limits.granted) some small core.sound))
-      (fit_windowed _ _ _ _ _ _ _ core.counts now n w after)
-      (told_edited (TellsAt c.limits.role c.limits.settings) c.recvs c.outbox.outstanding c.outbox.acked c.untold_recvs core.told_in now marks n (λ l. set_window l w) after are)
-      (carried_windowed c.recvs c.outbox.sends c.outbox.outstanding c.carried core.carried now n w after limits fell)
+  pub rest_windowed : (n w : ℕ) (now : Tables RecvLane) → 1 ≤ w → w ≤ MAX_WINDOW → now ≡ updated c.recvs n (λ k. set_window k w) (lookup c.recvs n)
+      → (limits : Tables Bool) → limits ≡ limits_by (recv_limit c.recvs n) (recv_limit now n) n c.due.limits → IsAtRest (record c { recvs = now; due = record c.due { limits = limits } })
+  rest_windowed n w now some small after limits are =
+      rw are (rest_recvs now c.ended _ (rw after (sound_window n w (end_with c.limits.role c.limits.settings (present_of c.limits) c.recvs c.limits.granted) some small core.sound))
+      (fit_windowed _ _ _ _ _ _ _ core.counts now n w after) (due_windowed core.due now n w after))
 
   -- a stream is stopped and forgotten, and counted anew
-  pub rest_forgotten : (n code : ℕ) (now : Tables RecvLane) (marks : Tables Bool) (e : ByDir ℕ) (was is : Bool) → now ≡ updated c.recvs n (λ l. stop_and_discard l code) (lookup c.recvs n) → marks ≡ updated c.untold_recvs n (λ b. true) (lookup c.untold_recvs n) → was ≡ is_over c.limits.role c.recvs c.outbox.sends n
-      → is ≡ is_over c.limits.role now c.outbox.sends n → e ≡ recounted n was is c.ended → IsAtRest (record c { recvs = now; untold_recvs = marks; ended = e })
-  rest_forgotten n code now marks e was is after are before behind to =
-      rest_recvs now marks e c.carried (rw after (sound_forget n code (end_with c.limits.role c.limits.settings (present_of c.limits) c.recvs c.limits.granted) core.sound))
-      (fit_forgotten _ _ _ _ _ _ _ core.counts now n code e was is after before behind to)
-      (told_edited (TellsAt c.limits.role c.limits.settings) c.recvs c.outbox.outstanding c.outbox.acked c.untold_recvs core.told_in now marks n (λ l. stop_and_discard l code) after are)
-      (carried_recv c.recvs c.outbox.sends c.outbox.outstanding c.carried core.carried now n (λ l. stop_and_discard l code) after (λ l. (let keeps = stop_keeps l code in record { limit = keeps.limit; stop = keeps.stop })))
+  pub rest_forgotten : (n code : ℕ) (told : Option ℕ) (now : Tables RecvLane) (marks : Tables Bool) (e : ByDir ℕ) (was is : Bool) → told ≡ stop_to_tell (lookup c.recvs n) → now ≡ updated c.recvs n (λ k. stop_and_discard k code) (lookup c.recvs n) → marks ≡ (if is_some told then c.due.stops else put_mark n true c.due.stops)
+      → was ≡ is_over c.limits.role c.recvs c.outbox.sends n → is ≡ is_over c.limits.role now c.outbox.sends n → e ≡ recounted n was is c.ended → IsAtRest (record c { recvs = now; due = record c.due { stops = marks }; ended = e })
+  rest_forgotten n code told now marks e was is same after are before behind to =
+      rw (are, same) (rest_recvs now e _ (rw after (sound_forget n code (end_with c.limits.role c.limits.settings (present_of c.limits) c.recvs c.limits.granted) core.sound))
+      (fit_forgotten _ _ _ _ _ _ _ core.counts now n code e was is after before behind to) (due_discarded core.due now n code after))
 
   -- Streams open
 
-  pub rest_opened : (n w : ℕ) (share : Share) (limit buffer : ℕ) (no_send no_recv : Bool) (o : Outgoing) (now : Tables RecvLane) (ins outs : Tables Bool) → o ≡ with_sends (cond no_send c.outbox.sends (open_to c.outbox.sends n (λ m. new_send_lane m limit buffer))) c.outbox
-      → now ≡ cond no_recv c.recvs (open_to c.recvs n (λ m. new_recv_lane w share)) → w ≡ first_window_by c.limits.role c.limits.settings n → ins ≡ open_to c.untold_recvs n (λ k. false) → outs ≡ open_to c.untold_sends n (λ k. false)
-      → (t : Carried) → t ≡ places_to n c.carried → IsAtRest (record c { outbox = o; recvs = now; untold_recvs = ins; untold_sends = outs; carried = t })
-  rest_opened n w share limit buffer no_send no_recv o now ins outs is after window in_are out_are t marks =
+  pub rest_opened : (n w : ℕ) (share : Share) (limit buffer : ℕ) (no_send no_recv : Bool) (o : Outgoing) (now : Tables RecvLane) → o ≡ with_sends (cond no_send c.outbox.sends (open_to c.outbox.sends n (λ m. new_send_lane m limit buffer))) c.outbox
+      → now ≡ cond no_recv c.recvs (open_to c.recvs n (λ m. new_recv_lane w share)) → w ≡ first_window_by c.limits.role c.limits.settings n → (t : Due) → t ≡ places_to n c.due → IsAtRest (record c { outbox = o; recvs = now; due = t })
+  rest_opened n w share limit buffer no_send no_recv o now is after window t marks =
       let sum = sum_open c.outbox.sends n limit buffer no_send in
       let credit = core.credit in
-      subst (λ (x : Outgoing). IsAtRest (record c { outbox = x; recvs = now; untold_recvs = ins; untold_sends = outs; carried = t })) (sym is)
+      subst (λ (x : Outgoing). IsAtRest (record c { outbox = x; recvs = now; due = t })) (sym is)
       (record {
         core = record {
           sound = sound_opened c.limits.role c.limits.settings (present_of c.limits) c.recvs now c.limits.granted n w share no_recv core.sound window after;
           fits = core.fits;
           credit = omega (arith, sum, credit);
           counts = fit_opened _ _ _ _ _ _ _ core.counts now _ n w share limit buffer no_send no_recv refl after;
-          told_in = rw in_are (recvs_open c.limits.role c.limits.settings c.recvs now c.outbox.outstanding c.outbox.acked c.untold_recvs n w share no_recv core.told_in after window);
-          told_out = rw out_are (sends_open c.outbox.sends _ c.outbox.outstanding c.outbox.acked c.untold_sends n limit buffer no_send core.told_out refl);
-          carried = rw marks (carried_opened c.recvs c.outbox.sends c.outbox.outstanding c.carried core.carried n no_recv no_send now _ (λ m. new_recv_lane w share) (λ m. new_send_lane m limit buffer) after refl);
+          due = rw marks (due_opened core.due n limit buffer w share no_recv no_send now _ window after refl);
           own = core.own;
         };
         idle = h.idle;
       })
 
   -- there are places for marks, and no stream opened
-  rest_marks : (ins outs : Tables Bool) → AreTold (TellsAt c.limits.role c.limits.settings) c.recvs c.outbox.outstanding c.outbox.acked ins → AreTold SendTells c.outbox.sends c.outbox.outstanding c.outbox.acked outs → (t : Carried) → HasPlaces c.carried t → IsAtRest (record c { untold_recvs = ins; untold_sends = outs; carried = t })
-  rest_marks ins outs told_in told_out t wide =
-      record { core = core_out c core c.outbox ins outs t c.own c.ended core.credit core.counts.counted told_in told_out (carried_placed c.recvs c.outbox.sends c.outbox.outstanding c.carried core.carried t wide) core.own; idle = h.idle }
-
-  ins_placed : (n : ℕ) (ins : Tables Bool) → ins ≡ open_to c.untold_recvs n (λ k. false) → AreTold (TellsAt c.limits.role c.limits.settings) c.recvs c.outbox.outstanding c.outbox.acked ins
-  ins_placed n ins are = rw are (told_placed (TellsAt c.limits.role c.limits.settings) c.recvs c.outbox.outstanding c.outbox.acked c.untold_recvs core.told_in n)
-
-  pub rest_ins_placed : (n : ℕ) (ins outs : Tables Bool) → ins ≡ open_to c.untold_recvs n (λ k. false) → outs ≡ c.untold_sends → IsAtRest (record c { untold_recvs = ins; untold_sends = outs })
-  rest_ins_placed n ins outs in_are out_are = rest_marks ins outs (ins_placed n ins in_are) (rw out_are core.told_out) c.carried (wide_none c.carried c.carried refl)
-
-  pub rest_placed : (n : ℕ) (ins outs : Tables Bool) → ins ≡ open_to c.untold_recvs n (λ k. false) → outs ≡ open_to c.untold_sends n (λ k. false) → (t : Carried) → HasPlaces c.carried t → IsAtRest (record c { untold_recvs = ins; untold_sends = outs; carried = t })
-  rest_placed n ins outs in_are out_are = rest_marks ins outs (ins_placed n ins in_are) (rw out_are (told_placed SendTells c.outbox.sends c.outbox.outstanding c.outbox.acked c.untold_sends core.told_out n))
+  pub rest_placed : (t : Due) → HasPlaces c.due t → IsAtRest (record c { due = t })
+  rest_placed t wide = record { core = core_marks c core t (due_placed core.due t wide); idle = h.idle }
 
   -- Limits
 
@@ -466,9 +434,7 @@ module _ (c : Core) (h : IsAtRest c) where
           fits = record { granted = fits.granted; granted_bidi = fits.granted_bidi; granted_uni = fits.granted_uni; known = small; bidi = bidi; uni = uni };
           credit = omega (arith, credit, more);
           counts = core.counts;
-          told_in = core.told_in;
-          told_out = core.told_out;
-          carried = core.carried;
+          due = core.due;
           own = own_risen c.limits c.outbox.outstanding c.own core.own _ (omega arith) (omega arith) (omega arith) more bidi_more uni_more;
         };
         idle = h.idle;
@@ -477,51 +443,29 @@ module _ (c : Core) (h : IsAtRest c) where
   -- Pieces leave their packets
 
   -- the first piece of a packet is acknowledged, and the stream counted anew
-  pub rest_acked : (late : Bool) (k : ℕ) (p : Piece) (o : Outgoing) (ins outs : Tables Bool) (e : ByDir ℕ) → first_piece (fmap.get (held_out late c.outbox) k) ≡ Some p → o ≡ first_acked_out (acked_at late k p) c.outbox → ins ≡ marked_for told_by_recv p c.untold_recvs → outs ≡ marked_for told_by_send p c.untold_sends
-      → AreAllCounted c.limits.role c.recvs o.sends e → IsIdle o → AreApartIn c.outbox.outstanding → (t : Carried) → t ≡ (if late then c.carried else carried_without p c.recvs o.sends c.carried) → (ys : Kept) → ys ≡ (if late then c.own else own_left p c.own) → IsAtRest (record c { outbox = o; untold_recvs = ins; untold_sends = outs; carried = t; own = ys; ended = e })
-  rest_acked late k p o ins outs e first is in_are out_are counted idle apart t marks ys values =
+  pub rest_acked : (late : Bool) (k : ℕ) (p : Piece) (o : Outgoing) (e : ByDir ℕ) → first_piece (fmap.get (held_out late c.outbox) k) ≡ Some p → o ≡ first_acked_out (acked_at late k p) c.outbox
+      → AreAllCounted c.limits.role c.recvs o.sends e → IsIdle o → AreApartIn c.outbox.outstanding → (ys : Kept) → ys ≡ (if late then c.own else own_left p c.own) → IsAtRest (record c { outbox = o; own = ys; ended = e })
+  rest_acked late k p o e first is counted idle apart ys values =
       let sum = ap (λ (x : Outgoing). sent_sum x.sends) is ∙ sum_piece p (without_piece_out late k c.outbox) in
       let credit = core.credit in
-      record {
-        core = core_out c core o ins outs t ys e (omega (arith, sum, credit)) counted
-            (acked_stays (TellsAt c.limits.role c.limits.settings) told_by_recv (recv_own c.limits.role c.limits.settings) (recv_noted c.limits.role c.limits.settings) c.recvs c.outbox o c.untold_recvs ins core.told_in late k p first is in_are)
-            (rw (ap (λ (x : Outgoing). x.sends) is) (told_noted late k p c.outbox o.outstanding o.acked outs (acked_stays SendTells told_by_send send_own send_noted c.outbox.sends c.outbox o c.untold_sends outs core.told_out late k p first is out_are)))
-            (carried_acked late k p c.outbox o c.recvs c.carried t core.carried apart first is marks) (own_acked late k p c.limits c.outbox o c.own ys core.own apart first is values);
-        idle = idle;
-      }
-
-  -- a piece stays, but its stream may be marked
-  pub rest_marked : (p : Piece) (o : Outgoing) (ins outs : Tables Bool) → o ≡ c.outbox → ins ≡ marked_for told_by_recv p c.untold_recvs → outs ≡ marked_for told_by_send p c.untold_sends → IsAtRest (record c { outbox = o; untold_recvs = ins; untold_sends = outs })
-  rest_marked p o ins outs is in_are out_are =
-      subst (λ (x : Outgoing). IsAtRest (record c { outbox = x; untold_recvs = ins; untold_sends = outs })) (sym is)
-      (record {
-        core = core_marks c core ins outs (marks_stay (TellsAt c.limits.role c.limits.settings) told_by_recv (recv_own c.limits.role c.limits.settings) (recv_noted c.limits.role c.limits.settings) c.recvs c.outbox c.outbox c.untold_recvs ins core.told_in p refl in_are)
-            (marks_stay SendTells told_by_send send_own send_noted c.outbox.sends c.outbox c.outbox c.untold_sends outs core.told_out p refl out_are);
-        idle = h.idle;
-      })
+      record { core = core_out c core o c.due ys e (omega (arith, sum, credit)) counted (due_acked c.outbox o core.due k p late first is) (own_acked late k p c.limits c.outbox o c.own ys core.own apart first is values); idle = idle }
 
   -- a piece that changes no half is acknowledged
-  pub rest_acked_by : (late : Bool) (k : ℕ) (p : Piece) (o : Outgoing) (ins outs : Tables Bool) → first_piece (fmap.get (held_out late c.outbox) k) ≡ Some p → half_of p ≡ None → o ≡ first_acked_out (acked_at late k p) c.outbox
-      → ins ≡ marked_for told_by_recv p c.untold_recvs → outs ≡ marked_for told_by_send p c.untold_sends → IsIdle o → AreApartIn c.outbox.outstanding → (t : Carried) → t ≡ (if late then c.carried else carried_without p c.recvs o.sends c.carried) → (ys : Kept) → ys ≡ (if late then c.own else own_left p c.own) → IsAtRest (record c { outbox = o; untold_recvs = ins; untold_sends = outs; carried = t; own = ys })
-  rest_acked_by late k p o ins outs first none ok in_are out_are idle =
-      rest_acked late k p o ins outs c.ended first ok in_are out_are (subst (λ (t : Tables SendLane). AreAllCounted c.limits.role c.recvs t c.ended) (sym (ap (λ (x : Outgoing). x.sends) ok ∙ sends_stay late k p c.outbox none)) core.counts.counted) idle
+  pub rest_acked_by : (late : Bool) (k : ℕ) (p : Piece) (o : Outgoing) → first_piece (fmap.get (held_out late c.outbox) k) ≡ Some p → half_of p ≡ None → o ≡ first_acked_out (acked_at late k p) c.outbox
+      → IsIdle o → AreApartIn c.outbox.outstanding → (ys : Kept) → ys ≡ (if late then c.own else own_left p c.own) → IsAtRest (record c { outbox = o; own = ys })
+  rest_acked_by late k p o first none ok idle =
+      rest_acked late k p o c.ended first ok (subst (λ (t : Tables SendLane). AreAllCounted c.limits.role c.recvs t c.ended) (sym (ap (λ (x : Outgoing). x.sends) ok ∙ sends_stay late k p c.outbox none)) core.counts.counted) idle
 
   -- the first piece of a packet is lost
-  pub rest_lost : (k : ℕ) (p : Piece) (o : Outgoing) (ins outs : Tables Bool) → first_piece (fmap.get c.outbox.outstanding k) ≡ Some p → o ≡ first_lost_out k p c.outbox → ins ≡ marked_for told_by_recv p c.untold_recvs → outs ≡ marked_for told_by_send p c.untold_sends → IsIdle o
-      → AreApartIn c.outbox.outstanding → (t : Carried) → t ≡ carried_without p c.recvs o.sends c.carried → IsAtRest (record c { outbox = o; untold_recvs = ins; untold_sends = outs; carried = t; own = own_left p c.own })
-  rest_lost k p o ins outs first is in_are out_are idle apart t marks =
+  pub rest_lost : (k : ℕ) (p : Piece) (o : Outgoing) → first_piece (fmap.get c.outbox.outstanding k) ≡ Some p → o ≡ first_lost_out k p c.outbox → IsIdle o
+      → AreApartIn c.outbox.outstanding → (t : Due) → t ≡ due_without p c.recvs o.sends c.due → IsAtRest (record c { outbox = o; due = t; own = own_left p c.own })
+  rest_lost k p o first is idle apart t marks =
       let sends = sym (ap (λ (x : Outgoing). x.sends) is) in
       record {
-        core = core_out c core o ins outs t (own_left p c.own) c.ended (subst (λ (x : Tables SendLane). sent_sum x ≤ c.limits.known_data) sends core.credit) (subst (λ (x : Tables SendLane). AreAllCounted c.limits.role c.recvs x c.ended) sends core.counts.counted)
-            (lost_stays (TellsAt c.limits.role c.limits.settings) told_by_recv (recv_own c.limits.role c.limits.settings) (recv_noted c.limits.role c.limits.settings) c.recvs c.outbox o c.untold_recvs ins core.told_in k p first is in_are)
-            (subst (λ (x : Tables SendLane). AreTold SendTells x o.outstanding o.acked outs) sends (lost_stays SendTells told_by_send send_own send_noted c.outbox.sends c.outbox o c.untold_sends outs core.told_out k p first is out_are))
-            (carried_lost k p c.outbox o c.recvs c.carried t core.carried apart first is marks) (own_lost k p c.limits c.outbox o c.own core.own apart first is);
+        core = core_out c core o t (own_left p c.own) c.ended (subst (λ (x : Tables SendLane). sent_sum x ≤ c.limits.known_data) sends core.credit) (subst (λ (x : Tables SendLane). AreAllCounted c.limits.role c.recvs x c.ended) sends core.counts.counted)
+            (rw marks (due_lost c.outbox o core.due k p apart first is)) (own_lost k p c.limits c.outbox o c.own core.own apart first is);
         idle = idle;
       }
-
--- marks alone moved
-pub rest_unmarked : (a b : Core) (ins outs : Tables Bool) → IsCore b → b ≡ record a { untold_recvs = ins; untold_sends = outs } → IsIdle a.outbox → IsAtRest b
-rest_unmarked a b ins outs core is idle = record { core = core; idle = subst (λ (x : Core). IsIdle x.outbox) (sym is) idle }
 
 -- A packet is filled
 
@@ -531,54 +475,45 @@ module _ (c : Core) (h : IsCore c) where
   there = end_of c (new_end c.limits.role c.limits.settings c.limits.tuning (record { max_data = 0; bidi_local = 0; bidi_remote = 0; uni = 0; streams_bidi = 0; streams_uni = 0 }))
 
   -- a frame is put
-  core_put : (f : Seen) (o : Outgoing) (marks : Tables Bool) → end_by c.limits c.recvs o there ≡ frame_put f there → sent_sum o.sends ≤ c.limits.known_data → o.acked ≡ c.outbox.acked → AreTold SendTells o.sends o.outstanding o.acked marks
-      → (t : Carried) → AreCarried c.recvs o.sends o.outstanding t → (ys : Kept) → AreOwn c.limits o.outstanding ys → IsCore (record c { outbox = o; untold_sends = marks; carried = t; own = ys })
-  core_put f o marks is credit acked told t marked ys values =
-      let carried : (p : Piece) → IsCarried c.outbox.outstanding p → IsCarried o.outstanding p = λ p out. subst (λ (x : End). IsCarried x.outstanding p) (sym is) (put_old f there p out) in
-      core_out c h o c.untold_recvs marks t ys c.ended credit (subst (λ (x : End). AreAllCounted c.limits.role x.recvs x.sends c.ended) (sym is) (put_counted c.limits.role there f c.ended h.counts.counted))
-      (rw acked (told_carried (TellsAt c.limits.role c.limits.settings) c.recvs c.outbox.outstanding c.outbox.acked c.untold_recvs h.told_in o.outstanding carried)) told marked values
+  core_put : (f : Seen) (o : Outgoing) → end_by c.limits c.recvs o there ≡ frame_put f there → sent_sum o.sends ≤ c.limits.known_data → (t : Due) → AreDue c.limits.role c.limits.settings c.recvs o.sends (packets_of o) t → (ys : Kept) → AreOwn c.limits o.outstanding ys → IsCore (record c { outbox = o; due = t; own = ys })
+  core_put f o is credit t due ys values = core_out c h o t ys c.ended credit (subst (λ (x : End). AreAllCounted c.limits.role x.recvs x.sends c.ended) (sym is) (put_counted c.limits.role there f c.ended h.counts.counted)) due values
 
   -- an item went in, or didn't fit
   pub core_item : (i : Item) (before : List ℕ) (len : ℕ) (after : List ℕ) (end : ℕ) (o : Outgoing) (full : Bool) → PutsItem i before len c.outbox after end o full → (e : End) → IsCurrent (end_of c e) i
-      → IsCore (record c { outbox = o; carried = if full then c.carried else item_carried i true c.carried; own = if full then c.own else own_with i c.own })
+      → IsCore (record c { outbox = o; due = if full then c.due else item_marked i false c.due; own = if full then c.own else own_with i c.own })
   core_item i before len after end o true (same, text, out, long) e current = subst (λ (x : Outgoing). IsCore (record c { outbox = x })) (sym out) h
   core_item i before len after end o false (text, out) e current =
       let sum = sum_put i c.outbox in
       let credit = h.credit in
-      let told = told_carried SendTells c.outbox.sends c.outbox.outstanding c.outbox.acked c.untold_sends h.told_out (item_put_out i c.outbox).outstanding (carried_more there.outstanding there.next (Told i)) in
-      subst (λ (x : Outgoing). IsCore (record c { outbox = x; carried = item_carried i true c.carried; own = own_with i c.own })) (sym out)
-      (core_put (Control i) (item_put_out i c.outbox) c.untold_sends (end_put c.limits c.recvs c.outbox there i) (omega (arith, sum, credit)) refl (told_put i c.outbox.sends _ c.outbox.acked c.untold_sends told)
-      (item_carried i true c.carried) (carried_put c.limits c.recvs c.outbox e c.carried h.carried i current) (own_with i c.own) (own_put c.limits c.outbox.outstanding c.own h.own c.outbox.next i (λ own. own_present c.limits c.recvs c.outbox e i own current)))
+      subst (λ (x : Outgoing). IsCore (record c { outbox = x; due = item_marked i false c.due; own = own_with i c.own })) (sym out)
+      (core_put (Control i) (item_put_out i c.outbox) (end_put c.limits c.recvs c.outbox there i) (omega (arith, sum, credit))
+      (item_marked i false c.due) (due_put c.limits c.recvs c.outbox e c.due h.due i current) (own_with i c.own) (own_put c.limits c.outbox.outstanding c.own h.own c.outbox.next i (λ own. own_present c.limits c.recvs c.outbox e i own current)))
 
   -- a chunk went in, and where it reached the stream's limit the stream has a mark
-  pub core_chunk : (n : ℕ) (chunk : Chunk) (bytes : List ℕ) (o : Outgoing) (marks : Tables Bool) → o ≡ chunk_put n chunk c.outbox → length bytes ≡ chunk.len → sent_sum (chunk_put n chunk c.outbox).sends ≤ c.limits.known_data → HasMore c.untold_sends marks
-      → ((m : ℕ) → IsBlockedAt (lookup o.sends n) m → lookup marks n ≡ Some false → ⊥) → IsCore (record c { outbox = o; untold_sends = marks })
-  core_chunk n chunk bytes o marks is count credit more blocked =
+  pub core_chunk : (n : ℕ) (chunk : Chunk) (bytes : List ℕ) (o : Outgoing) (half : Sending) (t : Due) (free : Bool) → o ≡ chunk_put n chunk c.outbox → length bytes ≡ chunk.len → sent_sum (chunk_put n chunk c.outbox).sends ≤ c.limits.known_data → HasSending c.outbox n half
+      → (free ≡ true → IsFree c.outbox n chunk) → (free ≡ false → IsShort c.outbox n) → (free ≡ true → t ≡ c.due) → (free ≡ false → IsNotedBlock (IsBlockedAt (lookup o.sends n)) n c.due t) → IsCore (record c { outbox = o; due = t })
+  core_chunk n chunk bytes o half t free is count credit has at_free at_short same noted =
       let put = chunk_put n chunk c.outbox in
-      let told = told_carried SendTells c.outbox.sends c.outbox.outstanding c.outbox.acked c.untold_sends h.told_out put.outstanding (carried_more there.outstanding there.next (Data n chunk)) in
-      subst (λ (x : Outgoing). IsCore (record c { outbox = x; untold_sends = marks })) (sym is)
-      (core_put (Stream n chunk.offset bytes chunk.fin) put marks (end_chunk c.limits c.recvs c.outbox there n chunk bytes count) credit refl
-      (told_sent c.outbox.sends put.outstanding c.outbox.acked c.untold_sends told put.sends n marks chunk refl more (subst (λ (x : Outgoing). (m : ℕ) → IsBlockedAt (lookup x.sends n) m → lookup marks n ≡ Some false → ⊥) is blocked))
-      c.carried (carried_send c.recvs c.outbox.sends put.outstanding c.carried (carried_chunk c.recvs c.outbox.sends c.outbox.outstanding c.carried h.carried c.outbox.next n chunk) put.sends n (λ l. sent_lane l chunk) refl (λ l. record { limit = refl; reset = λ r e. e }))
+      subst (λ (x : Outgoing). IsCore (record c { outbox = x; due = t })) (sym is)
+      (core_put (Stream n chunk.offset bytes chunk.fin) put (end_chunk c.limits c.recvs c.outbox there n chunk bytes count) credit t
+      (due_sent (due_chunk h.due c.outbox.next n chunk) _ n chunk free t refl (λ l at. (let lane = same_Some half.lane l (sym has.lane ∙ at) in (
+        λ on. subst (λ (x : SendLane). (x.written ≤ x.limit) ⊎ ((sent_lane x chunk).sent_end ≡ x.sent_end)) lane (at_free on half has),
+        λ off. subst (λ (x : SendLane). x.sent_end < x.limit) lane (at_short off half has),
+      ))) same (λ off. subst (λ (x : Outgoing). IsNotedBlock (IsBlockedAt (lookup x.sends n)) n c.due t) is (noted off)))
       c.own (own_chunk c.limits c.outbox.outstanding c.own h.own c.outbox.next n chunk))
 
-  -- a half of which all was told is marked no more
-  pub core_recv_unmarked : (n : ℕ) (marks : Tables Bool) → marks ≡ updated c.untold_recvs n (λ b. false) (lookup c.untold_recvs n) → ((e : End) → IsIdleAt (end_of c e) (slots.StopSending n)) → ((e : End) → IsIdleAt (end_of c e) (slots.MaxStreamData n)) → IsCore (record c { untold_recvs = marks })
-  core_recv_unmarked n marks are stop limit =
-      core_marks c h marks c.untold_sends (told_unmarked (TellsAt c.limits.role c.limits.settings) c.recvs c.outbox.outstanding c.outbox.acked c.untold_recvs h.told_in marks n are (in_idle c.limits c.recvs c.outbox there n (stop there) (limit there))) h.told_out
-
-  pub core_send_unmarked : (n : ℕ) (marks : Tables Bool) → marks ≡ updated c.untold_sends n (λ b. false) (lookup c.untold_sends n) → ((e : End) → IsIdleAt (end_of c e) (slots.ResetStream n)) → ((e : End) → IsIdleAt (end_of c e) (slots.StreamDataBlocked n)) → IsCore (record c { untold_sends = marks })
-  core_send_unmarked n marks are reset blocked =
-      core_marks c h c.untold_recvs marks h.told_in (told_unmarked SendTells c.outbox.sends c.outbox.outstanding c.outbox.acked c.untold_sends h.told_out marks n are (out_idle c.limits c.recvs c.outbox there n (reset there) (blocked there)))
+  -- a half of which nothing is due has a mark no more
+  pub core_cleared : (kind : Kind) (n : ℕ) (t : Due) → t ≡ kind_marked kind n false c.due → ((e : End) → IsIdleAt (end_of c e) (slot_at kind n)) → IsCore (record c { due = t })
+  core_cleared kind n t are idle = core_marks c h t (rw are (due_cleared c.limits c.recvs c.outbox there c.due h.due n kind (idle there)))
 
 pub fills_same : (c : Core) (out : List ℕ) (len own : ℕ) → IsFilling c out len → FillsOn c out len c out len own
 fills_same c out len own h =
     record { filling = h; memory = λ left. memory_less c (length out) len left (left - own) (omega arith); streams = streams_same c; ended = refl; rest = rest_same len out; room = refl }
 
 -- the packets and the marks alone moved
-pub fills_outbox : (c : Core) (o : Outgoing) (marks : Tables Bool) (t : Carried) (values : Kept) (xs ys : List ℕ) (i j own : ℕ) → IsCore (record c { outbox = o; untold_sends = marks; carried = t; own = values }) → j ≤ length ys
-    → ((left : ℕ) → HasMemory c (length xs) i left → HasMemory (record c { outbox = o; untold_sends = marks; carried = t; own = values }) (length ys) j (left - own)) → LeavesRest i xs j ys → length ys ≡ length xs → FillsOn c xs i (record c { outbox = o; untold_sends = marks; carried = t; own = values }) ys j own
-fills_outbox c o marks t values xs ys i j own core within memory rest room = record { filling = record { core = core; within = within }; memory = memory; streams = record { limits = refl; recvs = refl }; ended = refl; rest = rest; room = room }
+pub fills_outbox : (c : Core) (o : Outgoing) (t : Due) (values : Kept) (xs ys : List ℕ) (i j own : ℕ) → IsCore (record c { outbox = o; due = t; own = values }) → j ≤ length ys
+    → ((left : ℕ) → HasMemory c (length xs) i left → HasMemory (record c { outbox = o; due = t; own = values }) (length ys) j (left - own)) → LeavesRest i xs j ys → length ys ≡ length xs → FillsOn c xs i (record c { outbox = o; due = t; own = values }) ys j own
+fills_outbox c o t values xs ys i j own core within memory rest room = record { filling = record { core = core; within = within }; memory = memory; streams = record { limits = refl; recvs = refl }; ended = refl; rest = rest; room = room }
 
 pub fills_on : (a b c : Core) (xs ys zs : List ℕ) (i j k own more : ℕ) → FillsOn a xs i b ys j own → FillsOn b ys j c zs k more → FillsOn a xs i c zs k (own + more)
 fills_on a b c xs ys zs i j k own more f g =
@@ -599,11 +534,11 @@ pub memory_six : (c : Core) (room len left : ℕ) → left ≤ 6 → HasMemory c
 memory_six c room len left le h = memory_less c room len 6 left le h
 
 -- marks alone moved
-pub fills_marks : (a b : Core) (ins outs : Tables Bool) (out : List ℕ) (len : ℕ) → IsFilling a out len → IsCore b → b ≡ record a { untold_recvs = ins; untold_sends = outs } → FillsOn a out len b out len 0
-fills_marks a b ins outs out len h core is =
+pub fills_marks : (a b : Core) (t : Due) (out : List ℕ) (len : ℕ) → IsFilling a out len → IsCore b → b ≡ record a { due = t } → FillsOn a out len b out len 0
+fills_marks a b t out len h core is =
     record {
       filling = record { core = core; within = h.within };
-      memory = λ left m. subst (λ (x : Core). HasMemory x (length out) len (left - 0)) (sym is) (memory_marks a ins outs (length out) len (left - 0) (memory_less a (length out) len left (left - 0) (omega arith) m));
+      memory = λ left m. subst (λ (x : Core). HasMemory x (length out) len (left - 0)) (sym is) (memory_marks a t a.own (length out) len (left - 0) (memory_less a (length out) len left (left - 0) (omega arith) m));
       streams = record { limits = ap (λ (x : Core). x.limits) is; recvs = ap (λ (x : Core). x.recvs) is };
       ended = ap (λ (x : Core). x.ended) is;
       rest = rest_same len out;
@@ -622,10 +557,6 @@ fills_within a b xs ys i j own most le f =
       room = f.room;
     }
 
--- a write of nothing leaves the sending halves as they are
-pub none_written : (n count : ℕ) (bytes : List ℕ) (a b : Outgoing) → count ≤ 0 → b ≡ on_lane n (λ l. write_lane l (take count bytes)) a → b ≡ a
-none_written n count bytes a b none is = grind (arith, nat_tests, append-nil, update_back)
-
 -- What holds of an end between calls
 
 module _ (c : Core) (peer : PeerLimits) (done : NumberSet) (is due : Bool) (closed : Option Closed) (k : IsKept c peer done is due closed) where
@@ -635,8 +566,8 @@ module _ (c : Core) (peer : PeerLimits) (done : NumberSet) (is due : Bool) (clos
   kept_next now same rest next = record { rest = rest; peer_fits = k.peer_fits; closing_fits = k.closing_fits; few = k.few; acks = k.acks; settled = next }
 
   -- packets and sending halves move, and marks
-  pub kept_outbox : (o : Outgoing) (marks : Tables Bool) → IsAtRest (record c { outbox = o; untold_sends = marks }) → IsKept (record c { outbox = o; untold_sends = marks }) peer done is due closed
-  kept_outbox o marks rest = kept_next _ is rest k.settled
+  pub kept_outbox : (o : Outgoing) (t : Due) → IsAtRest (record c { outbox = o; due = t }) → IsKept (record c { outbox = o; due = t }) peer done is due closed
+  kept_outbox o t rest = kept_next _ is rest k.settled
 
   -- the limits, the receiving halves and the counts stay
   pub kept_streams : (now : Core) → IsAtRest now → KeepsStreams c now → now.ended ≡ c.ended → IsKept now peer done is due closed
@@ -686,8 +617,8 @@ module _ (c : Core) (peer : PeerLimits) (done : NumberSet) (is_settled due : Boo
   inside = k.rest.core
 
   keeps : (l : Limits) → KeepsCredit l.role l.settings (present_of l) c.recvs l.granted → LimitsFit l → sent_sum c.outbox.sends ≤ l.known_data → CountsFit l.role l.settings c.recvs c.outbox.sends c.ended l.granted_streams.bidi l.granted_streams.uni
-      → AreTold (TellsAt l.role l.settings) c.recvs c.outbox.outstanding c.outbox.acked c.untold_recvs → AreOwn l c.outbox.outstanding c.own → Keeps l
-  keeps l sound fits credit counts told own = grind (arith, nat_tests)
+      → AreDue l.role l.settings c.recvs c.outbox.sends (packets_of c.outbox) c.due → AreOwn l c.outbox.outstanding c.own → Keeps l
+  keeps l sound fits credit counts due own = grind (arith, nat_tests)
 
   -- the connection's window
   pub kept_window : (window paid : ℕ) (l : Limits) → is_settable (ConnWindow window) ≡ true → paid ≡ total taken c.recvs → l ≡ with_window window paid c.limits → Keeps l
@@ -695,7 +626,7 @@ module _ (c : Core) (peer : PeerLimits) (done : NumberSet) (is_settled due : Boo
       subst Keeps (sym is) (subst (λ t. Keeps (with_window window t c.limits)) (sym all)
       (keeps (with_window window (total taken c.recvs) c.limits) (sound_set (ConnWindow window) (end_with c.limits.role c.limits.settings (present_of c.limits) c.recvs c.limits.granted) (in_range (is_settable (ConnWindow window)) fits) inside.sound)
       (record { granted = limit_small c.limits.conn_window c.limits.granted (total taken c.recvs) window inside.fits.granted; granted_bidi = inside.fits.granted_bidi; granted_uni = inside.fits.granted_uni; known = inside.fits.known; bidi = inside.fits.bidi; uni = inside.fits.uni })
-      inside.credit inside.counts inside.told_in
+      inside.credit inside.counts inside.due
       (own_risen c.limits c.outbox.outstanding c.own inside.own _ (limit_rises c.limits.conn_window c.limits.granted (total taken c.recvs) window) (omega arith) (omega arith) (omega arith) (omega arith) (omega arith))))
 
   -- a direction's grant
@@ -707,13 +638,13 @@ module _ (c : Core) (peer : PeerLimits) (done : NumberSet) (is_settled due : Boo
           let within = grant_within c.limits.grants.bidi c.limits.granted_streams.bidi c.limits.settings.lifetime_bidi over streams inside.counts.bidi in
           keeps (with_grant Bidi streams over c.limits) (sound_set (Grant Bidi streams) (end_with c.limits.role c.limits.settings (present_of c.limits) c.recvs c.limits.granted) (in_range (is_settable (Grant Bidi streams)) fits) inside.sound)
           (record { granted = inside.fits.granted; granted_bidi = omega (arith, within, few_bidi c.limits.settings inside.sound.settings); granted_uni = inside.fits.granted_uni; known = inside.fits.known; bidi = inside.fits.bidi; uni = inside.fits.uni })
-          inside.credit (record { counted = inside.counts.counted; told = inside.counts.told; bidi = within; uni = inside.counts.uni }) inside.told_in
+          inside.credit (record { counted = inside.counts.counted; told = inside.counts.told; bidi = within; uni = inside.counts.uni }) inside.due
           (own_risen c.limits c.outbox.outstanding c.own inside.own _ (omega arith) (count_rises c.limits.grants.bidi c.limits.granted_streams.bidi c.limits.settings.lifetime_bidi over streams) (omega arith) (omega arith) (omega arith) (omega arith))
       go Uni fits =
           let within = grant_within c.limits.grants.uni c.limits.granted_streams.uni c.limits.settings.lifetime_uni over streams inside.counts.uni in
           keeps (with_grant Uni streams over c.limits) (sound_set (Grant Uni streams) (end_with c.limits.role c.limits.settings (present_of c.limits) c.recvs c.limits.granted) (in_range (is_settable (Grant Uni streams)) fits) inside.sound)
           (record { granted = inside.fits.granted; granted_bidi = inside.fits.granted_bidi; granted_uni = omega (arith, within, few_uni c.limits.settings inside.sound.settings); known = inside.fits.known; bidi = inside.fits.bidi; uni = inside.fits.uni })
-          inside.credit (record { counted = inside.counts.counted; told = inside.counts.told; bidi = inside.counts.bidi; uni = within }) inside.told_in
+          inside.credit (record { counted = inside.counts.counted; told = inside.counts.told; bidi = inside.counts.bidi; uni = within }) inside.due
           (own_risen c.limits c.outbox.outstanding c.own inside.own _ (omega arith) (omega arith) (count_rises c.limits.grants.uni c.limits.granted_streams.uni c.limits.settings.lifetime_uni over streams) (omega arith) (omega arith) (omega arith))
 
 -- ---- A frame on a stream of which nothing was told moves no limit and no count of streams.

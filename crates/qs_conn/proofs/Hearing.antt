@@ -3,7 +3,7 @@ use Rattle.qs_conn.specs.declared.recv_marks.RecvTask.TheVariants as tasks
 use Rattle.qs_send.specs.declared.parts.SendFault.TheVariants as sends
 use Rattle.std.specs.FinSet as set
 use Rattle.qs_conn.specs.declared.send_marks.Task.TheVariants as send_tasks
-use Rattle.std.proofs.Common.{◌≡◌, ℕ, ◌+◌, ◌-◌, ◌*◌, ◌/◌, ◌%◌, ◌<◌, ◌≤◌, ◌^◌, ◌==◌, ◌&&◌, not, nat_le, Bool, true, false, List, length, Option, None, Some, refl, sym, ap, ◌∙◌, subst, arith, zero, suc, ◌⊎◌, is_some, inl, inr, [], take, Result, Ok, Err, unwrap_or, if◌then◌else◌, option_map, ◌||◌, min, cond, nat_lt, IsTrue, map, get_or}
+use Rattle.std.proofs.Common.{◌≡◌, ℕ, ◌+◌, ◌-◌, ◌*◌, ◌/◌, ◌%◌, ◌<◌, ◌≤◌, ◌^◌, ◌==◌, ◌&&◌, not, nat_le, Bool, true, false, List, length, Option, None, Some, refl, sym, ap, ◌∙◌, subst, arith, zero, suc, ◌⊎◌, is_some, inl, inr, [], take, Result, Ok, Err, unwrap_or, if◌then◌else◌, option_map, ◌||◌, min, cond, nat_lt, IsTrue, get_or}
 use Rattle.std.specs.Option.{IfSome, IfNone}
 use Rattle.std.proofs.lemmas.Bool.{true≢false, both_ways, eq-eqb, ne_eqb, and_parts, not-true, cases_lt, and_right}
 use Rattle.std.proofs.lemmas.Bool.Decides.{nat_tests}
@@ -13,11 +13,11 @@ use Rattle.qs_machine.specs.Tables.{Tables, type_of, lookup, table, index_of, up
 use Rattle.qs_machine.specs.Ends.{End, role_bit, is_uni, is_own, send_lane, recv_lane, on_send, on_recv, first_window_by, is_own_by}
 use Rattle.qs_machine.specs.News.{IsHeld, IsEnded, IsLeast, IsReadable, HasForPacket, IsSendable, IsWritable}
 use Rattle.qs_machine.specs.Heard.{is_told, Hearing, heard_opened, IsNews, IsNextOpened, IsFirstNews, ComesBefore, kind_of, subject_of, place_of, is_held_back, WasResetAcked, MayOpen, wants, TakesMemory, FirstTakesMemory}
-use Rattle.qs_conn.specs.Marks.{is_marked, both, untold, AreEndsMarked, IsBefore, IsNextMark, IsUntoldOf, least_of, IsUntold}
+use Rattle.qs_conn.specs.Marks.{is_marked, AreMarksFor, both, untold, AreEndsMarked, IsBefore, IsNextMark, IsUntoldOf, least_of, IsUntold}
 use Rattle.qs_conn.specs.Ended.{recv_over, send_over, IsToldOfEnd}
 use Rattle.qs_conn.specs.RecvTasks.{HasOne, HasNone, has_one}
 use Rattle.qs_conn.specs.Sending.{HasSent, IsDueOf, MayWrite, offered, let_go, front_of, credit_room, WasStopped, TakesAlone}
-use Rattle.qs_conn.proofs.Marked.{marked_below, both_self, told_of, next_self, waits, none_before, none_next, least_given, least_two, least_by, row_none, row_some, nowhere_told, at_mark, mark_at, clear_next}
+use Rattle.qs_conn.proofs.Marked.{marked_below, both_self, told_of, next_self, waits, none_before, none_next, least_given, least_two, least_by, row_none, row_some, at_mark, mark_at, clear_next}
 use Rattle.qs_conn.proofs.Boths.{both_is, both_len, untold_is, untold_len}
 use Rattle.std.proofs.lemmas.Option.{none-some, same_Some}
 use Rattle.qs_wire.specs.Streams.{dir_of}
@@ -50,10 +50,10 @@ use Rattle.qs_conn.specs.declared.limits.Limits.{Limits}
 use Rattle.qs_calls.specs.declared.settings.Settings.{Settings}
 use Rattle.qs_wire.specs.declared.stream_id.Role.{Role}
 use Rattle.qs_machine.specs.Due.{ByteGoes, EndGoes, StreamGoes}
-use Rattle.qs_machine.specs.Outgoing.{Outgoing, IsTied, HasSending, IsBlockedAt, WantsMore, chunk_put, lanes_of, sent_sum, with_outgoing, IsAckedReset}
+use Rattle.qs_machine.specs.Outgoing.{Outgoing, IsTied, HasSending, WantsMore, chunk_put, lanes_of, sent_sum, with_outgoing, IsAckedReset}
 use Rattle.qs_conn.specs.Filling.{end_by, AnyWantsMore}
 use Rattle.qs_conn.specs.declared.send_marks.Task.{Task}
-use Rattle.qs_conn.specs.Tasks.{HasTask, IsOpen, IsQuiet, IsQuietAt, IsDoneAfter, IsFree, has, is_due_below, may_end, is_funded, sought_of, IsSoughtAt, IsSought, IsSoughtOf}
+use Rattle.qs_conn.specs.Tasks.{HasTask, IsOpen, IsQuiet, IsQuietAt, IsDoneAfter, has, is_due_below, may_end, is_funded, sought_of, IsSoughtAt, IsSought, IsSoughtOf}
 use Rattle.qs_conn.proofs.Outboxes.{is_due, is_end_due, due_is, end_due_is, none_is}
 use Rattle.qs_conn.proofs.Tasks.{no_byte, no_fin, no_fin_again, none_again, below_due, due_below, end_parts, parts_end, unsent_below}
 use Rattle.qs_machine.proofs.LaneTables.{lookup_lanes, lane_there}
@@ -67,7 +67,7 @@ use Rattle.qs_ranges.specs.Numbers.{MAX_VARINT}
 use Rattle.qs_wire.specs.declared.stream_id.Dir.TheVariants.{Bidi, Uni}
 use Rattle.qs_recv.specs.News.{is_readable}
 use Rattle.qs_machine.proofs.TableEdits.{lookup_is}
-use Rattle.qs_conn.specs.Untold.{IsClear as HasNoMarks}
+use Rattle.qs_conn.specs.Marks.{IsClear as HasNoMarks}
 use Rattle.qs_conn.specs.declared.send_marks.Search.{Search}
 
 recv_there : (t : Tables RecvLane) (n : ℕ) (o : Option RecvLane) → lookup t n ≡ o → recv_over o ≡ true → IsHeld (HasOne tasks.Ended) t n
@@ -450,9 +450,6 @@ module _ (o : Outgoing) (n : ℕ) (s : Sending) (c : Chunk) (there : HasSending 
   pub done_quiet : IsDoneAfter o n c → IsQuietAt send_tasks.Bytes (chunk_put n c o) n
   done_quiet done l at = (after_sent s c, same_Some (sent_lane s.lane c) l (sym lane_put ∙ at), tied_sent o.outstanding o.next n s c there.tied there.lawful due, done s there)
 
-  pub not_blocked : IsFree o n → (m : ℕ) → IsBlockedAt (lookup (chunk_put n c o).sends n) m → ⊥
-  not_blocked free m blocked = (let more = subst (λ x. IsBlockedAt x m) lane_put blocked in omega (arith, more.2, free s there))
-
 -- while the connection's credit is used up, nothing goes but what takes none
 pub no_goes_again : (o : Outgoing) (n : ℕ) → IsQuietAt send_tasks.Again o n → (t : Limits) (recvs : Tables RecvLane) (e : End) → t.known_data ≤ sent_sum o.sends → StreamGoes (end_by t recvs o e) n → ⊥
 no_goes_again o n q t recvs e spent goes =
@@ -736,7 +733,7 @@ not_marked : (told : Bool) (ms ts : List Bool) (i : ℕ) → is_marked (if told 
 not_marked told ms ts i none is = grind (arith, nat_tests, both_is, untold_is)
 
 -- a search over the marks is one over the halves of a type
-pub sought_least : (q : Search) (xs : List Sending) (ms ts : List Bool) → ms ≡ map (has q.task) xs → (from : ℕ) (r : Option ℕ) → IsNextMark (sought_of q ms ts) from r → IsLeast (IsSoughtAt q xs ts) from r
+pub sought_least : (q : Search) (xs : List Sending) (ms ts : List Bool) → AreMarksFor (has q.task) xs ms → (from : ℕ) (r : Option ℕ) → IsNextMark (sought_of q ms ts) from r → IsLeast (IsSoughtAt q xs ts) from r
 sought_least q xs ms ts is from r next =
     least_by (IsSoughtAt q xs ts) from r (λ n found. (let m = sought_mark q.is_told ms ts n (next.found n found).1 in ((next.found n found).0, (at_mark (has q.task) xs ms is n m.0, m.1))))
     (λ i ge before ((x, at, some), told). both_ways (has q.task x) (sym (mark_at (has q.task) xs ms is i x at) ∙ not_marked q.is_told ms ts i (next.unmarked i ge before) told) some)

@@ -2,13 +2,13 @@
 use Rattle.std.specs.FinSet as set
 use Rattle.qs_conn.specs.declared.send_marks.Task.TheVariants as tasks
 use Rattle.std.proofs.lemmas.Grind.{common_steps}
-use Rattle.std.proofs.Common.{◌≡◌, ◌≢◌, ℕ, zero, suc, ◌+◌, ◌<◌, ◌≤◌, ◌⊎◌, inl, inr, Bool, false, ◌&&◌, ◌||◌, List, [], ◌∷◌, ◌++◌, length, map, take, replicate, Some, refl, ap, sym, ◌∙◌, arith, subst, min, nat_le, nat_lt, eqb, get_or, slice_get, ◌-◌, ◌/◌, ◌%◌, ◌^◌, true, is_some, ◌*◌, None, ◌==◌, unwrap_or, Option, Result, cond}
-use Rattle.qs_conn.proofs.Untolds.{of_mapped, is_marked_now, unmarked_before}
-use Rattle.qs_conn.proofs.Marked.{padded, noted_again, noted_opened, noted_fewer, noted_raised}
-use Rattle.std.proofs.lemmas.List.{get_or-take, append_assoc, get_or_default, set-get_or, length-append, length-map, length-replicate, length-take, get_or-set_same}
-use Rattle.std.proofs.lemmas.Option.{none-some, same_Some, slice_get_read, slice_get_within, slice_get-map, slice_get_cases, get_or_from_slice_get}
+use Rattle.std.proofs.Common.{◌≡◌, ◌≢◌, ℕ, zero, suc, ◌+◌, ◌<◌, ◌≤◌, ◌⊎◌, inl, inr, Bool, false, ◌&&◌, ◌||◌, List, [], ◌∷◌, ◌++◌, length, map, take, Some, refl, ap, sym, ◌∙◌, arith, subst, min, nat_le, nat_lt, eqb, get_or, slice_get, ◌-◌, ◌/◌, ◌%◌, ◌^◌, true, is_some, None, ◌==◌, unwrap_or, Option, Result, Ok, Err, cond}
+use Rattle.qs_conn.proofs.Untolds.{of_mapped}
+use Rattle.qs_conn.proofs.Marked.{begins_without, marks_fewer, marks_same, marks_set, marks_wider, noted_raised}
+use Rattle.std.proofs.lemmas.List.{append-nil, append_assoc, get_or-set_same, get_or_default, length-append, length-map, length-take, set-get_or}
+use Rattle.std.proofs.lemmas.Option.{none-some, same_Some, slice_get_read, slice_get_within, slice_get-map, slice_get_cases}
 use Rattle.std.proofs.lemmas.Bool.Decides.{nat_tests}
-use Rattle.std.proofs.lemmas.Bool.{cases_eq, cond_both}
+use Rattle.std.proofs.lemmas.Bool.{both_ways, cases_eq, cond_both}
 use Rattle.std.proofs.Math.ListN.{set, length-set, set as set_list}
 use Rattle.std.proofs.Math.Seq.{take-append_seam}
 use Rattle.qs_ranges.specs.Numbers.{MAX_VARINT, contains-with_range, contains-without_range, numbers, missing_from}
@@ -16,41 +16,42 @@ use Rattle.qs_recv.specs.Lane.{MAX_WINDOW, RecvLane, new_lane, step, raise, take
 use Rattle.qs_recv.specs.declared.credit.Share.{Share}
 use Rattle.qs_conn.specs.declared.touches.Touches.{Touches}
 use Rattle.qs_conn.specs.declared.touches.Touched.{Touched}
-use Rattle.qs_conn.specs.RecvEdits.{IsCalm, wrapped, with_part, with_parts, added, IsTallyOf, IsEdited, IsEditedIn, AreKept}
+use Rattle.qs_conn.specs.declared.send_lanes.Setting.{Setting}
+use Rattle.qs_conn.specs.declared.send_lanes.Setting.TheVariants as settings
+use Rattle.qs_conn.specs.Edits.{after_set, OrStays, IsEdited, IsEditedIn}
+use Rattle.qs_conn.specs.RecvEdits.{IsCalm, wrapped, with_part, with_parts, added, IsTallyOf, AreKept}
+use Rattle.qs_conn.specs.Marks.{HasRoom, IsClearedFrom, IsWider}
+use Rattle.qs_conn.specs.declared.touches.Touched.TheVariants.{Nothing, Lane, Several}
 use Rattle.qs_conn.specs.Touches.{is_among, is_touched, IsSettled, AreSettled, IsTaken}
 use Rattle.std.specs.Prelude.{slice_set}
 use Rattle.std.specs.List.{range_with_len, sum_by}
 use Rattle.std.proofs.lemmas.List.FromFn.{map-range_with_len_more, length-map-range_with_len}
 use Rattle.std.proofs.lemmas.List.Sums.{sum_by-set}
 use Rattle.qs_recv.specs.Lawful.{IsLawful as IsLawfulRecv}
-use Rattle.qs_recv.specs.declared.credit.Share.TheVariants.{Half}
 use Rattle.qs_machine.specs.declared.tally.Tally.{Tally}
 use Rattle.qs_conn.specs.declared.recv_marks.RecvTask.{RecvTask}
 use Rattle.qs_conn.specs.declared.recv_marks.RecvMarks.{RecvMarks}
 use Rattle.qs_machine.specs.Tables.{lookup, total, widened, Tables, updated}
 use Rattle.qs_machine.specs.Sums.{changed, stored_on, tally_of, tally_on, tables_of, EachLawful, IsPaid, no_sending}
 use Rattle.qs_conn.specs.RecvTasks.{has as recv_has, marks_of as recv_marks_of}
-use Rattle.qs_machine.proofs.TableEdits.{lane_is, open_there, total_four, updated_is}
+use Rattle.qs_machine.proofs.TableLaws.{lookup_same}
+use Rattle.qs_machine.proofs.TableEdits.{open_there, total_four, updated_is}
 use Rattle.qs_machine.proofs.Counts.{each_paid, lawful_set, lawful_append, lawful_begun, lawful_take, lawful_raised, tally_opened, tally_raised}
-use Rattle.qs_conn.specs.Untold.{HasMore, IsRaisedMarked, AreRaisedMarked}
 use Rattle.std.specs.Option.{IfSome}
 use Rattle.std.specs.Result.{OnOk, OnErr, IfOk, IfErr}
 use Rattle.qs_ranges.proofs.Sets.{outside}
 use Rattle.qs_send.specs.Chunks.{IsDueChunk, WasSent}
 use Rattle.qs_send.specs.Halves.{half_at, over_sending, IsOver}
-use Rattle.qs_send.specs.Lane.{Sending, SendLane, accepted, refusal, finish_lane, after_write, after_finish, after_sent, after_acked, reset_refusal, state, after_reset, after_stopped, after_asked, after_stop, after_lost, after_allow, after_buffer, after_blocked, broken_off, first_code}
+use Rattle.qs_send.specs.Lane.{Sending, SendLane, accepted, refusal, finish_lane, after_write, after_finish, after_sent, after_acked, reset_refusal, after_reset, after_stopped, after_asked, after_stop, after_lost, after_allow, after_buffer, after_blocked, broken_off, first_code}
 use Rattle.qs_send.specs.Sound.{IsLawful}
-use Rattle.qs_send.specs.Writable.{is_writable}
 use Rattle.qs_send.specs.declared.parts.Chunk.{Chunk}
 use Rattle.qs_send.specs.declared.parts.SendFault.{SendFault}
 use Rattle.qs_send.specs.declared.parts.SendFault.TheVariants.{NoMemory, Finished}
-use Rattle.qs_send.proofs.Steps.{write_nothing, rest_missing, rest_acked, rest_lost}
+use Rattle.qs_send.proofs.Steps.{rest_missing, rest_acked, rest_lost}
 use Rattle.qs_machine.specs.Credit.{send_ended}
 use Rattle.qs_conn.specs.Tasks.{IsStill, IsStillButEnd, IsStillButSent, has, is_due_below, AreAllMarked, AreMarksOf, marks_of}
 use Rattle.qs_conn.proofs.Tasks.{sent_promises, promised_of, kept_of, sums_same, none_again, no_fin_again, quiet_again, all_looked, marks_read, none_below}
 use Rattle.std.specs.Ordering.{nat_cmp}
-use Rattle.qs_send.specs.declared.parts.SendState.{SendState}
-use Rattle.qs_send.specs.declared.parts.SendState.TheVariants.{ResetSent}
 use Rattle.qs_send.proofs.Slots.{none_goes}
 use Rattle.qs_conn.specs.declared.send_marks.Task.{Task}
 use Rattle.qs_conn.specs.declared.send_marks.SendMarks.{SendMarks}
@@ -108,7 +109,7 @@ get_same (x ∷ xs) zero y l at = (same_Some y l at, omega arith)
 get_same (x ∷ xs) (suc i) y l at = let (is, lt) = get_same xs i y l at in (is, omega (arith, lt))
 
 -- a lane becomes another, and is touched where what was taken of it moved
-pub are_moved : (t new : Touches) (xs : List RecvLane) (i : ℕ) (x y : RecvLane) → i < length xs → x ≡ get_or xs i x → length t.marks ≡ length xs → IsCalm x y
+pub are_moved : (t new : Touches) (xs : List RecvLane) (i : ℕ) (x y : RecvLane) → i < length xs → x ≡ get_or xs i x → length xs ≤ length t.marks → IsCalm x y
     → ((j : ℕ) → j < length t.marks → is_touched new j ≡ false → (is_touched t j ≡ false) × (j ≡ i → taken y ≡ taken x)) → AreSettled t xs → AreSettled new (set xs i y)
 are_moved t new xs i x y there at room calm touched each j l found free =
     let in_xs : j < length xs = omega (arith, slice_get_within (set xs i y) j l found, length-set xs i y) in
@@ -127,28 +128,27 @@ get_seam [] ys j l at = inr (j, at)
 get_seam (x ∷ xs) ys zero l at = inl at
 get_seam (x ∷ xs) ys (suc j) l at = get_seam xs ys j l at
 
-among_more : (k : Touched) (ms : List Bool) (n i : ℕ) → is_among k ms i ≡ is_among k (ms ++ replicate n false) i
-among_more k ms n i = grind (arith, nat_tests, padded)
+among_wider : (k : Touched) (ms now : List Bool) → IsWider ms now → (i : ℕ) → is_among k now i ≡ is_among k ms i
+among_wider Nothing ms now wide i = refl
+among_wider (Lane k) ms now wide i = refl
+among_wider Several ms now wide i = wide.same i
 
-pub are_opened : (t new : Touches) (xs : List RecvLane) (w n : ℕ) (share : Share) (ks : List ℕ) → 1 ≤ w → w ≤ MAX_WINDOW → new.lanes ≡ t.lanes → new.marks ≡ t.marks ++ replicate n false → AreSettled t xs → AreSettled new (xs ++ map (λ (i : ℕ). new_lane w share) ks)
-are_opened t new xs w n share ks some small lanes marks each j l there free = grind (arith, nat_tests, get_seam, among_more, slice_get-map)
+pub are_wider : (t new : Touches) (xs : List RecvLane) → new.lanes ≡ t.lanes → IsWider t.marks new.marks → AreSettled t xs → AreSettled new xs
+are_wider t new xs lanes wide each j l there free = each j l there (sym (among_wider t.lanes t.marks new.marks wide j) ∙ ap (λ k. is_among k new.marks j) (sym lanes) ∙ free)
+
+are_next : (t : Touches) (xs : List RecvLane) (x : RecvLane) → IsSettled x → AreSettled t xs → AreSettled t (xs ++ x ∷ [])
+are_next t xs x settled each j l there free = elim (get_seam xs (x ∷ []) j l there) [ inl at ↦ each j l at free | inr (k, at) ↦ one k at ]
+  where
+    one : (k : ℕ) → slice_get (x ∷ []) k ≡ Some l → IsSettled l
+    one zero at = subst IsSettled (same_Some x l at) settled
+    one (suc k) at = absurd (none-some l at)
 
 -- lanes are taken away
 
-get_taken : {X : Type 0} (n : ℕ) (xs : List X) (j : ℕ) (l : X) → slice_get (take n xs) j ≡ Some l → (slice_get xs j ≡ Some l) × (j < n)
-get_taken (suc n) (x ∷ xs) zero l at = (at, omega arith)
-get_taken (suc n) (x ∷ xs) (suc j) l at = let (there, lt) = get_taken n xs j l at in (there, omega (arith, lt))
+get_taken : {X : Type 0} (n : ℕ) (xs : List X) (j : ℕ) (l : X) → slice_get (take n xs) j ≡ Some l → slice_get xs j ≡ Some l
+get_taken (suc n) (x ∷ xs) zero l at = at
+get_taken (suc n) (x ∷ xs) (suc j) l at = get_taken n xs j l at
 get_taken _ _ _ l at = absurd (none-some l at)
-
-among_taken : (k : Touched) (n : ℕ) (ms : List Bool) (i : ℕ) → i < n → is_among k ms i ≡ is_among k (take n ms) i
-among_taken k n ms i lt = grind (arith, nat_tests, get_or-take)
-
-pub are_taken : (t new : Touches) (n : ℕ) (xs : List RecvLane) → new.lanes ≡ t.lanes → new.marks ≡ take n t.marks → AreSettled t xs → AreSettled new (take n xs)
-are_taken t new n xs lanes marks each j l there free = grind (arith, nat_tests, get_taken, among_taken)
-
--- what was opened is taken back
-pub touched_back : (t now : Touches) (n k : ℕ) → now.lanes ≡ t.lanes → now.marks ≡ take n (t.marks ++ replicate k false) → n ≡ length t.marks → now ≡ t
-touched_back t now n k lanes marks len = grind (arith, nat_tests, take-append_seam)
 
 -- no lane has a limit to be raised once all were
 pub still_settled : (xs : List RecvLane) (t : Touches) → AreSettled t (map raise xs)
@@ -184,29 +184,41 @@ module _ (xs : List RecvLane) (i : ℕ) (x y : RecvLane) (there : i < length xs)
             ) refl;
         lawful = lawful_set xs i y lawful kept.lawful;
         settled =
-            are_moved touched next xs i x y there at kept.room calm
+            are_moved touched next xs i x y there at (omega (arith, kept.room)) calm
             (λ j lt free. let (was_free, same) = moved j lt free in (was_free, λ e. sym (ap (λ (k : Tally). k.taken) part_is) ∙ sym (same e) ∙ ap (λ (k : Tally). k.taken) was_is)) kept.settled;
-        room = room ∙ kept.room ∙ sym (length-set xs i y);
+        room = rw (room, length-set) kept.room;
         few = rw length-set kept.few;
-        noted = noted_again xs marks looked i y again kept.noted;
+        noted = λ k. rw (again k) (marks_set (recv_has k) xs (recv_marks_of marks k) (kept.noted k) i y there);
       }
 
 pub changed_at : {X : Type 0} (xs : List X) (i : ℕ) (x y : X) (f : X → X) → i < length xs → x ≡ get_or xs i x → y ≡ f x → set xs i y ≡ changed xs i f (slice_get xs i)
 changed_at xs i x y f there at is = rw (slice_get_read xs (length xs) i x refl there at, is) refl
 
--- the lane of a stream, among those of all types
-pub edited_in : {R : Type 0} (leaves : RecvLane → R → RecvLane → Type 0) (ls : List (List RecvLane)) (n k i : ℕ) (d ys : List RecvLane) (r : R) → length ls ≡ 4 → k ≡ n % 4 → i ≡ n / 4 → is_some (lookup (tables_of ls) n) ≡ true
-    → IsEdited leaves (get_or ls k d) i r ys → IsEditedIn leaves (tables_of ls) n r (tables_of (set ls k ys))
-edited_in leaves ls n k i d ys r len kind index is_open e =
-    let here = lane_is ls n k i d 0 Half len kind index in
-    let there = open_there ls n k i d len kind index is_open in
-    let x = get_or (get_or ls k d) i (new_lane 0 Half) in
+-- what a stream has, among those of all types
+pub edited_in : {X R : Type 0} (leaves : X → R → X → Type 0) (ls : List (List X)) (n k i : ℕ) (d ys : List X) (z x : X) (r : R) → x ≡ get_or (get_or ls k d) i z → length ls ≡ 4 → k ≡ n % 4 → i ≡ n / 4 → is_some (lookup (tables_of ls) n) ≡ true
+    → IsEdited leaves (get_or (get_or ls k d) i z) (get_or ls k d) i r ys → IsEditedIn leaves x (tables_of ls) n r (tables_of (set ls k ys))
+edited_in leaves ls n k i d ys z x r here len kind index is_open e =
+    let xs = get_or ls k d in
+    let there = get_or_default xs i z (get_or xs i z) (open_there ls n k i d len kind index is_open) in
+    let is : (f : _) → e.now ≡ f x → tables_of (set ls k ys) ≡ updated (tables_of ls) n f (lookup (tables_of ls) n) =
+    λ f same. updated_is ls n k i d ys f len kind index (e.is ∙ changed_at xs i (get_or xs i z) e.now f (open_there ls n k i d len kind index is_open) there (same ∙ ap f here)) in
     record {
-      lane = e.lane;
-      left = subst (λ l. leaves l r e.lane) (sym here) e.left;
-      is = λ f same. updated_is ls n k i d ys f len kind index (e.is ∙ changed_at (get_or ls k d) i x e.lane f there (get_or_default (get_or ls k d) i (new_lane 0 Half) x there) (same ∙ ap f here));
-      same = λ same. ap (λ l. tables_of (set ls k l)) (e.is ∙ ap (set (get_or ls k d) i) (same ∙ here) ∙ set-get_or (get_or ls k d) i (new_lane 0 Half)) ∙ ap tables_of (set-get_or ls k d);
+      now = e.now;
+      left = subst (λ y. leaves y r e.now) (sym here) e.left;
+      there = updated_there (tables_of ls) n e.now (lookup (tables_of ls) n) refl is_open (is (λ y. e.now) refl);
+      is = is;
+      same = λ same. ap (λ l. tables_of (set ls k l)) (e.is ∙ ap (set xs i) (same ∙ here) ∙ set-get_or xs i z) ∙ ap tables_of (set-get_or ls k d);
     }
+  where
+    updated_there : {X : Type 0} (t : Tables X) {t' : Tables X} (n : ℕ) (y : X) (o : Option X) → lookup t n ≡ o → is_some o ≡ true → t' ≡ updated t n (λ x. y) (lookup t n) → lookup t' n ≡ Some y
+    updated_there t n y None at is e = absurd (both_ways false refl is)
+    updated_there t n y (Some x) at is e = ap (λ k. lookup k n) (e ∙ ap (updated t n (λ x. y)) at) ∙ lookup_same t n x y at
+
+-- where a sending half is changed by a function, which leaves one that is over as it is: so the halves changed, and the answer
+pub by_edit : {R : Type 0} {leaves : Sending → R → Sending → Type 0} {over : R} (t t' : Tables Sending) (n : ℕ) (s : Sending) (r : R) (f : Sending → Sending) (a : Sending → R) → IsEditedIn (OrStays leaves over) s t n r t'
+    → ((now : Sending) → leaves s r now → (now ≡ f s) × (r ≡ a s)) → (IsOver s → (f s ≡ s) × (over ≡ a s)) → (t' ≡ updated t n f (lookup t n)) × (r ≡ a s)
+by_edit t t' n s r f a e left stays =
+    elim e.left [ inl l ↦ (let (now, answer) = left e.now l in (e.is f now, answer)) | inr o ↦ (let (same, answer) = stays o.0 in (e.is f (o.2 ∙ sym same), o.1 ∙ answer)) ]
 
 -- The sums over all types
 
@@ -217,72 +229,89 @@ summed ls k l m n len p q r s a_is b_is c_is d_is small t is = grind (arith, nat
 
 -- Lanes open
 
-pub opened : (xs now : List RecvLane) (t now_t : Tally) (touched now_touched : Touches) (marks now_marks : RecvMarks) (w : ℕ) (share : Share) (n m count : ℕ) → 1 ≤ w → w ≤ MAX_WINDOW → count ≤ 2 ^ 60 → n ≤ m → m ≤ n → m ≡ count - length xs
-    → now ≡ xs ++ map (λ (i : ℕ). new_lane w share) (range_with_len (length xs) n) → now_t ≡ t → now_touched.lanes ≡ touched.lanes → now_touched.marks ≡ touched.marks ++ replicate (count - length touched.marks) false
-    → ((k : RecvTask) → recv_marks_of now_marks k ≡ recv_marks_of marks k ++ replicate (count - length (recv_marks_of marks k)) false) → AreKept xs t touched marks → AreKept now now_t now_touched now_marks
-opened xs now t now_t touched now_touched marks now_marks w share n m count some small few le ge missing is same_t lanes ms news was =
-    let more = length-map-range_with_len (λ (i : ℕ). new_lane w share) (length xs) n in
-    let len = length-append xs (map (λ (i : ℕ). new_lane w share) (range_with_len (length xs) n)) in
-    let notes = noted_opened w share xs now marks now_marks count n m is le ge missing news was.noted in
-    grind (arith, nat_tests, tally_opened, lawful_append, lawful_begun, are_opened, length-append, length-replicate)
+-- memory was asked for more marks
+pub wider : (xs : List RecvLane) (t : Tally) (touched next : Touches) (marks now : RecvMarks) → next.lanes ≡ touched.lanes → IsWider touched.marks next.marks → ((k : RecvTask) → IsWider (recv_marks_of marks k) (recv_marks_of now k)) → AreKept xs t touched marks → AreKept xs t next now
+wider xs t touched next marks now lanes wide more h =
+    record {
+      counted = h.counted;
+      lawful = h.lawful;
+      settled = are_wider touched next xs lanes wide h.settled;
+      room = omega (arith, h.room, wide.longer);
+      few = h.few;
+      noted = λ k. marks_wider (recv_has k) xs (recv_marks_of marks k) (h.noted k) (recv_marks_of now k) (more k);
+    }
 
--- what was opened is taken back
-pub undone : (xs now : List RecvLane) (t now_t : Tally) (touched now_touched : Touches) (marks now_marks : RecvMarks) → now ≡ xs → now_t ≡ t → now_touched ≡ touched → ((k : RecvTask) → recv_marks_of now_marks k ≡ recv_marks_of marks k)
-    → AreKept xs t touched marks → AreKept now now_t now_touched now_marks
-undone xs now t now_t touched now_touched marks now_marks a b c d h = grind (arith, nat_tests)
+-- one more opens, without a mark
+pub one_opened : (xs : List RecvLane) (t : Tally) (touched : Touches) (marks : RecvMarks) (w : ℕ) (share : Share) (i : ℕ) → i ≡ length xs → 1 ≤ w → w ≤ MAX_WINDOW → i < 2 ^ 60 → HasRoom (i + 1) touched.marks → ((k : RecvTask) → HasRoom (i + 1) (recv_marks_of marks k)) → AreKept xs t touched marks
+    → AreKept (xs ++ new_lane w share ∷ []) t touched marks
+one_opened xs t touched marks w share i at some small few room more h =
+    record {
+      counted = h.counted ∙ ap wrapped (sym (tally_opened xs w share (0 ∷ [])));
+      lawful = lawful_append xs (new_lane w share ∷ []) h.lawful (lawful_begun w share (0 ∷ []) some small);
+      settled = are_next touched xs (new_lane w share) (new_settled w share some small) h.settled;
+      room = omega (arith, at, room, length-append xs (new_lane w share ∷ []));
+      few = omega (arith, at, few, length-append xs (new_lane w share ∷ []));
+      noted = λ k. marks_same (recv_has k) xs (recv_marks_of marks k) (h.noted k) i (new_lane w share) at (more k) (begins_without k w share);
+    }
 
 -- some lanes leave, which nothing came for
-pub fewer : (n : ℕ) (xs : List RecvLane) (t : Tally) (touched next : Touches) (marks left : RecvMarks) → tally_on (take n xs) ≡ tally_on xs → next.lanes ≡ touched.lanes → next.marks ≡ take n touched.marks
-    → ((k : RecvTask) → recv_marks_of left k ≡ take n (recv_marks_of marks k)) → AreKept xs t touched marks → AreKept (take n xs) t next left
-fewer n xs t touched next marks left same lanes ms news h =
+pub fewer : (n : ℕ) (xs : List RecvLane) (t : Tally) (touched : Touches) (marks left : RecvMarks) → tally_on (take n xs) ≡ tally_on xs → ((k : RecvTask) → IsClearedFrom n (recv_marks_of marks k) (recv_marks_of left k)) → AreKept xs t touched marks → AreKept (take n xs) t touched left
+fewer n xs t touched marks left same cleared h =
     record {
       counted = h.counted ∙ ap wrapped (sym same);
       lawful = lawful_take n xs h.lawful;
-      settled = are_taken touched next n xs lanes ms h.settled;
-      room = rw (ms, length-take, length-take, h.room) refl;
+      settled = λ j l there. h.settled j l (get_taken n xs j l there);
+      room = omega (arith, h.room, length-take n xs);
       few = omega (arith, h.few, length-take n xs);
-      noted = noted_fewer n xs marks left news h.noted;
+      noted = λ k. marks_fewer (recv_has k) xs (recv_marks_of marks k) (h.noted k) n (recv_marks_of left k) (cleared k);
     }
+
+-- lanes that opened count for nothing
+pub tally_back : (w : ℕ) (share : Share) (xs now : List RecvLane) (n count : ℕ) → now ≡ widened xs n (λ i. new_lane w share) → count ≡ length xs → tally_on (take count now) ≡ tally_on now
+tally_back w share xs now n count is at = rw (is, at) (ap tally_on (take-append_seam xs _) ∙ sym (tally_opened xs w share _))
 
 -- all limits are raised
 pub raised : (xs : List RecvLane) (t : Tally) (touched next : Touches) (marks : RecvMarks) → length next.marks ≡ length touched.marks → AreKept xs t touched marks → AreKept (map raise xs) t next marks
 raised xs t touched next marks room h = grind (arith, nat_tests, tally_raised, lawful_raised, still_settled, length-map, noted_raised)
 
-pub opened_more : {X : Type 0} (xs now : List X) (f : ℕ → X) (n : ℕ) (x : X) → now ≡ xs ++ map f (range_with_len (length xs) n) → x ≡ f (length xs + n) → now ++ x ∷ [] ≡ xs ++ map f (range_with_len (length xs) (n + 1))
-opened_more xs now f n x is at = grind (arith, nat_tests, append_assoc, map-range_with_len_more)
+-- Parts of any kind open one after the other
 
-pub opened_back : {X : Type 0} (xs now more : List X) (m : ℕ) → now ≡ xs ++ more → m ≡ length xs → take m now ≡ xs
-opened_back xs now more m is at = ap (λ k. take k now) at ∙ ap (take (length xs)) is ∙ take-append_seam xs more
+pub widened_none : {X : Type 0} (xs : List X) (f : ℕ → X) (i count : ℕ) → i ≡ length xs → xs ≡ widened xs (min i count) f
+widened_none xs f i count at = let none : min i count - length xs ≡ 0 = omega (arith, at) in rw (none, append-nil) refl
 
-pub opened_all : {X : Type 0} (xs now : List X) (f : ℕ → X) (n m count len : ℕ) → now ≡ xs ++ map f (range_with_len (length xs) n) → n ≤ m → m ≤ n → m ≡ count - len → len ≡ length xs → now ≡ widened xs count f
-opened_all xs now f n m count len is le ge at same = grind (arith, nat_tests)
+module _ {X : Type 0} (xs : List X) (f : ℕ → X) (now : List X) (i count : ℕ) (is : now ≡ widened xs (min i count) f) where
+  pub widened_all : count ≤ i → now ≡ widened xs count f
+  widened_all past = is ∙ ap (λ n. widened xs n f) (omega (arith, past))
 
--- ---- Receiving lanes that are raised one by one, and marked.
+  pub widened_back : (m : ℕ) → m ≡ length xs → take m now ≡ xs
+  widened_back m at = rw (is, at) (take-append_seam xs _)
 
--- Raised lanes are marked
+  module _ (m : ℕ) (at : m ≡ length xs) (from : m ≤ i) (below : i < count) where
+    pub widened_len : length now ≡ i
+    widened_len = let n = min i count - length xs in rw is (omega (arith, at, from, below, length-append xs (map f (range_with_len (length xs) n)), length-map-range_with_len f (length xs) n))
+
+    pub widened_next : (x : X) → x ≡ f i → now ++ x ∷ [] ≡ widened xs (min (i + 1) count) f
+    widened_next x is_next =
+        let n = min i count - length xs in
+        let more : min (i + 1) count - length xs ≡ n + 1 = omega (arith, at, from, below) in
+        rw (is, more, is_next) (append_assoc xs (map f (range_with_len (length xs) n)) (f i ∷ []) ∙ ap (λ ys. xs ++ ys) (sym (map-range_with_len_more f (length xs) n i (omega (arith, at, from, below)))))
+
+-- ---- Receiving lanes that are raised one by one.
 
 -- a limit that didn't rise is the next one already
 pub not_raised : (l : RecvLane) → ((v : ℕ) → raise_answer l ≡ Some v → ⊥) → raise l ≡ l
 not_raised l none = cond_both (nat_lt l.limit (raised_limit l)) (Some (raised_limit l)) None (λ o. ((v : ℕ) → o ≡ Some v → ⊥) → raise l ≡ l) (λ up some. absurd (some (raised_limit l) refl)) (λ stays _. settled_raise l (grind (arith, nat_tests, stays))) none
 
-pub raised_none : (kind : ℕ) (xs : List RecvLane) (marks : Tables Bool) (i : ℕ) (x : RecvLane) → i < length xs → x ≡ get_or xs i x → raise_answer x ≡ None → IsRaisedMarked kind xs marks i
-raised_none kind xs marks i x lt at none l there free = subst (λ k. raise k ≡ k) (at ∙ get_or_from_slice_get xs i l x there) (not_raised x (λ v is. none-some v (sym none ∙ is)))
-
-pub raised_some : (kind : ℕ) (xs : List RecvLane) (marks marks' : Tables Bool) (i n : ℕ) → n ≡ i * 4 + kind → marks' ≡ updated marks n (λ b. true) (lookup marks n) → IsRaisedMarked kind xs marks' i
-raised_some kind xs marks marks' i n is are l there free = grind (arith, nat_tests, is_marked_now)
-
 -- Lanes are raised one after the other, as they were touched
 
--- What stands between: the lanes that were touched and those that were raised are raised at the end, all others are settled, and a lane
--- without a mark is as it was.
-pub record AreRaisedSoFar (kind : ℕ) (xs now : List RecvLane) (t : Touches) (marks : Tables Bool) : Type 0 where
+-- what stands between: the lanes that were touched and those that were raised are raised at the end, and all others are settled
+pub record AreRaisedSoFar (xs now : List RecvLane) (t : Touches) : Type 0 where
   pub raised : map raise now ≡ map raise xs
   pub len : length now ≡ length xs
   pub settled : AreSettled t now
-  pub same : (i : ℕ) (l : RecvLane) → slice_get xs i ≡ Some l → lookup marks (i * 4 + kind) ≡ Some false → slice_get now i ≡ Some l
 
-pub none_yet : (kind : ℕ) (xs : List RecvLane) (t : Touches) (marks : Tables Bool) → AreSettled t xs → AreRaisedSoFar kind xs xs t marks
-none_yet kind xs t marks settled = record { raised = refl; len = refl; settled = settled; same = λ i l at free. at }
+pub none_yet : (xs : List RecvLane) (t : Touches) → AreSettled t xs → AreRaisedSoFar xs xs t
+none_yet xs t settled = record { raised = refl; len = refl; settled = settled }
 
 raise_again : (xs : List RecvLane) (k : ℕ) (x : RecvLane) → slice_get xs k ≡ Some x → map raise (set xs k (raise x)) ≡ map raise xs
 raise_again [] k x at = absurd (none-some x at)
@@ -290,9 +319,8 @@ raise_again (z ∷ xs) zero x at = ap (λ l. l ∷ map raise xs) (settled_raise 
 raise_again (z ∷ xs) (suc k) x at = ap (λ ls. raise z ∷ ls) (raise_again xs k x at)
 
 -- one lane more is raised
-pub one_more : (kind : ℕ) (xs ys now : List RecvLane) (t new : Touches) (marks marks' : Tables Bool) (k : ℕ) → AreRaisedSoFar kind xs ys t marks → k < length ys → IsTaken t (Some k) new → now ≡ changed ys k raise (slice_get ys k)
-    → HasMore marks marks' → IsRaisedMarked kind ys marks' k → AreRaisedSoFar kind xs now new marks'
-one_more kind xs ys now t new marks marks' k far lt taken is more here =
+pub one_more : (xs ys now : List RecvLane) (t new : Touches) (k : ℕ) → AreRaisedSoFar xs ys t → k < length ys → IsTaken t (Some k) new → now ≡ changed ys k raise (slice_get ys k) → AreRaisedSoFar xs now new
+one_more xs ys now t new k far lt taken is =
     elim (slice_get_cases ys k).1 [
       | inl (x, in_list, there, read) ↦
           (let at : now ≡ set ys k (raise x) = is ∙ ap (changed ys k raise) there in
@@ -306,45 +334,17 @@ one_more kind xs ys now t new marks marks' k far lt taken is more here =
                   | inl e ↦ subst IsSettled (get_same ys k (raise x) l (ap (slice_get (set ys k (raise x))) (sym e) ∙ in_now)).0 (raised_twice x)
                   | inr ne ↦ elim (taken j free) [ inl e ↦ absurd (ne e) | inr was ↦ far.settled j l (sym (get_other ys k j (raise x) ne) ∙ in_now) was ]
                 ];
-            same =
-                λ j l in_xs free.
-                let before = far.same j l in_xs (unmarked_before marks marks' (j * 4 + kind) more free) in
-                elim (cases_eq j k) [
-                  | inl e ↦
-                      (let is_l : l ≡ x = same_Some l x (sym before ∙ ap (slice_get ys) e ∙ there) in
-                      let still : raise x ≡ x = here x there (subst (λ i. lookup marks' (i * 4 + kind) ≡ Some false) e free) in
-                      ap (λ y. slice_get (set ys k y) j) still ∙ set_same ys k j x there ∙ before)
-                  | inr ne ↦ get_other ys k j (raise x) ne ∙ before
-                ];
           }))
       | inr (past, none) ↦ absurd (omega (arith, lt, past))
     ]
-  where
-    set_same : (zs : List RecvLane) (i j : ℕ) (z : RecvLane) → slice_get zs i ≡ Some z → slice_get (set zs i z) j ≡ slice_get zs j
-    set_same (y ∷ zs) zero zero z at = sym at
-    set_same (y ∷ zs) (suc i) (suc j) z at = set_same zs i j z at
-    set_same _ i j z at = refl
 
 -- a touched index that isn't one
-pub past_more : (kind : ℕ) (xs ys : List RecvLane) (t new : Touches) (marks : Tables Bool) (k : ℕ) → AreRaisedSoFar kind xs ys t marks → length ys ≤ k → IsTaken t (Some k) new → AreRaisedSoFar kind xs ys new marks
-past_more kind xs ys t new marks k far past taken = grind (arith, nat_tests, slice_get_within)
+pub past_more : (xs ys : List RecvLane) (t new : Touches) (k : ℕ) → AreRaisedSoFar xs ys t → length ys ≤ k → IsTaken t (Some k) new → AreRaisedSoFar xs ys new
+past_more xs ys t new k far past taken = grind (arith, nat_tests, slice_get_within)
 
 -- no lane is left
-pub all_raised : (kind : ℕ) (xs now : List RecvLane) (t : Touches) (marks : Tables Bool) → AreRaisedSoFar kind xs now t marks → ((i : ℕ) → is_touched t i ≡ false) → now ≡ map raise xs
-all_raised kind xs now t marks far none = sym (none_raised t now far.settled none) ∙ far.raised
-
-pub none_marked : (kind : ℕ) (xs : List RecvLane) (t : Touches) (marks : Tables Bool) → AreSettled t xs → ((i : ℕ) → is_touched t i ≡ false) → AreRaisedMarked kind xs marks
-none_marked kind xs t marks settled none i l at free = settled_raise l (settled i l at (none i))
-
-pub all_marked : (kind : ℕ) (xs now : List RecvLane) (t : Touches) (marks : Tables Bool) → AreRaisedSoFar kind xs now t marks → ((i : ℕ) → is_touched t i ≡ false) → AreRaisedMarked kind xs marks
-all_marked kind xs now t marks far none i l at free = settled_raise l (far.settled i l (far.same i l at free) (none i))
-
--- the lanes of all four types
-pub raised_tables : (ls : List (List RecvLane)) (a b c d e f g : List RecvLane) (t u v w : Tables Bool) → length ls ≡ 4 → AreRaisedMarked 0 (get_or ls 0 d) t → AreRaisedMarked 1 (get_or (set ls 0 a) 1 e) u → AreRaisedMarked 2 (get_or (set (set ls 0 a) 1 b) 2 f) v
-    → AreRaisedMarked 3 (get_or (set (set (set ls 0 a) 1 b) 2 c) 3 g) w → HasMore t u → HasMore u v → HasMore v w → (n : ℕ) (l : RecvLane) → lookup (tables_of ls) n ≡ Some l → lookup w n ≡ Some false → raise l ≡ l
-unfolding lookup
-raised_tables (x ∷ y ∷ z ∷ k ∷ []) a b c d e f g t u v w len p q r s tu uv vw n l at free = grind (arith, nat_tests)
-raised_tables _ a b c d e f g t u v w len p q r s tu uv vw n l at free = absurd (omega (arith, len))
+pub all_raised : (xs now : List RecvLane) (t : Touches) → AreRaisedSoFar xs now t → ((i : ℕ) → is_touched t i ≡ false) → now ≡ map raise xs
+all_raised xs now t far none = sym (none_raised t now far.settled none) ∙ far.raised
 
 -- ---- Sending halves are opened and edited; some are over.
 
@@ -358,10 +358,6 @@ changed_is xs i f there = sym (changed_at xs i (half_at xs i) (f (half_at xs i))
 
 pub set_same : (xs : List Sending) (i : ℕ) → set_list xs i (half_at xs i) ≡ xs
 set_same xs i = set-get_or xs i no_sending
-
-pub wrote_none : (r : Result ℕ SendFault) (xs : List Sending) (i : ℕ) (bytes : List ℕ) → i < length xs → is_writable (half_at xs i).lane ≡ false → IfOk r (λ n. (refusal (half_at xs i).lane ≡ None) × (n ≡ 0))
-    → IfOk r (λ n. (refusal (half_at xs i).lane ≡ None) × (n ≡ accepted (half_at xs i).lane (length bytes)) × (xs ≡ changed xs i (λ s. after_write s (take n bytes)) (slice_get xs i)))
-wrote_none r xs i bytes there shut h = grind (arith, nat_tests, set_same, write_nothing, changed_is)
 
 -- What a change leaves that doesn't move all
 
@@ -412,10 +408,6 @@ there_at xs i there = get_or_default xs i no_sending (half_at xs i) there
 whole_is : (n : ℕ) → ((missing_from (numbers 0 n) 0 == n) && true) ≡ true
 whole_is n = let e = rest_missing n in let same : (missing_from (numbers 0 n) 0 == n) ≡ true = grind (arith, nat_tests) in ap (λ b. b && true) same
 
-is_reset_sent : SendState → Bool
-is_reset_sent ResetSent = true
-is_reset_sent other = false
-
 module _ (s : Sending) (o : IsOver s) where
   pub over_refused : refusal s.lane ≡ Some Finished
   over_refused = ap (λ (t : Sending). refusal t.lane) o.is
@@ -450,10 +442,6 @@ module _ (s : Sending) (o : IsOver s) where
   pub over_lost : (c : Chunk) → WasSent s.lane c → after_lost s c ≡ s
   over_lost c was = grind (arith, nat_tests, rest_lost)
 
-  pub over_not_reset : state s.lane ≡ ResetSent → ⊥
-  unfolding is_reset_sent
-  over_not_reset is = grind (arith, nat_tests)
-
   -- what it has for a packet or an owner is its end
   over_ended : send_ended s.lane ≡ true
   over_ended = ap (λ (t : Sending). send_ended t.lane) o.is ∙ whole_is o.written
@@ -471,16 +459,36 @@ over_has tasks.Writable s o = ap (has tasks.Writable) o.is
 over_has tasks.Funded s o = ap (has tasks.Funded) o.is
 over_has tasks.Stopped s o = ap (has tasks.Stopped) o.is
 
+-- a write, through an edit of its half
+pub wrote_in : {leaves : Sending → Result ℕ SendFault → Sending → Type 0} (t t' : Tables Sending) (n : ℕ) (s : Sending) (r : Result ℕ SendFault) (bytes : List ℕ) → IsEditedIn (OrStays leaves (Err Finished)) s t n r t'
+    → ((now : Sending) → leaves s r now → IfOk r (λ j. (refusal s.lane ≡ None) × (j ≡ accepted s.lane (length bytes)) × (now ≡ after_write s (take j bytes))) × IfErr r (λ f. (now ≡ s) × (f ≡ unwrap_or (refusal s.lane) NoMemory)))
+    → IfOk r (λ j. (refusal s.lane ≡ None) × (j ≡ accepted s.lane (length bytes)) × (t' ≡ updated t n (λ x. after_write x (take j bytes)) (lookup t n))) × IfErr r (λ f. (t' ≡ t) × (f ≡ unwrap_or (refusal s.lane) NoMemory))
+wrote_in t t' n s (Ok j) bytes e left =
+    elim e.left [ inl l ↦ (let (none, is, now) = (left e.now l).0 in ((none, is, e.is (λ x. after_write x (take j bytes)) now), tt)) | inr o ↦ (let not = o.1 in grind (arith, not)) ]
+wrote_in t t' n s (Err f) bytes e left =
+    elim e.left [ inl l ↦ (let (now, is) = (left e.now l).1 in (tt, (e.same now, is))) | inr o ↦ (tt, (e.same o.2, (let is = o.1 in let none = over_refused _ o.0 in grind (arith, is, none)))) ]
+
 -- one that is over once its limit, its buffer or that it was blocked was set was over before
 module _ (s : Sending) where
-  pub allow_over : (limit : ℕ) → IsOver (after_allow s limit) → IsOver s
+  allow_over : (limit : ℕ) → IsOver (after_allow s limit) → IsOver s
   allow_over limit o = record { written = o.written; blocked = o.blocked; widest = o.widest; is = ap (λ (t : Sending). record t { lane = record t.lane { limit = s.lane.limit } }) o.is }
 
-  pub buffer_over : (size : ℕ) → IsOver (after_buffer s size) → IsOver s
+  buffer_over : (size : ℕ) → IsOver (after_buffer s size) → IsOver s
   buffer_over size o = record { written = o.written; blocked = o.blocked; widest = s.lane.widest; is = ap (λ (t : Sending). record t { lane = record t.lane { buffer = s.lane.buffer; widest = s.lane.widest } }) o.is }
 
-  pub blocked_over : IsOver (after_blocked s) → IsOver s
+  blocked_over : IsOver (after_blocked s) → IsOver s
   blocked_over o = record { written = o.written; blocked = s.lane.blocked_sent; widest = o.widest; is = ap (λ (t : Sending). record t { lane = record t.lane { blocked_sent = s.lane.blocked_sent } }) o.is }
+
+-- so with any value that is set; and no sum moves
+pub set_over : (s : Sending) (setting : Setting) → IsOver (after_set setting s) → IsOver s
+set_over s (settings.Limit limit) o = allow_over s limit o
+set_over s (settings.Buffer size) o = buffer_over s size o
+set_over s settings.Blocked o = blocked_over s o
+
+pub set_sums : (s : Sending) (setting : Setting) → (promised_of (after_set setting s) ≡ promised_of s) × (kept_of (after_set setting s) ≡ kept_of s)
+set_sums s (settings.Limit limit) = (refl, refl)
+set_sums s (settings.Buffer size) = (refl, refl)
+set_sums s settings.Blocked = (refl, refl)
 
 -- a half was put so that it is over exactly if it was
 module _ (xs now : List Sending) (marks : SendMarks) (i : ℕ) (y : Sending) (there : i < length xs) (is : now ≡ set_list xs i y) where
@@ -495,4 +503,4 @@ module _ (xs now : List Sending) (marks : SendMarks) (i : ℕ) (y : Sending) (th
       → (length xs ≤ 2 ^ 60) × AreAllMarked xs marks × AreSums xs n k → (length now ≤ 2 ^ 60) × AreAllMarked now new × AreSums now n k
   put_looked new n k looked promised kept h =
       subst (λ (l : List Sending). (length l ≤ 2 ^ 60) × AreAllMarked l new × AreSums l n k) (sym is)
-      (all_looked xs marks new n k n k i y (λ t. looked t ∙ ap (λ s. slice_set (marks_of marks t) i (has t s)) put_read) h (sums_same xs n k i (half_at xs i) y there (there_at xs i there) promised kept h.2))
+      (all_looked xs marks new n k n k i y there (λ t. looked t ∙ ap (λ s. slice_set (marks_of marks t) i (has t s)) put_read) h (sums_same xs n k i (half_at xs i) y there (there_at xs i there) promised kept h.2))

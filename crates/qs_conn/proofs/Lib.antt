@@ -2,7 +2,9 @@ pub mod Stages
 pub mod Tasks
 pub mod Asked
 pub mod Cores
-pub mod Carrieds
+pub mod Dues
+pub mod DuePackets
+pub mod Owns
 pub mod Flows
 pub mod MadePackets
 pub mod Outboxes

@@ -20,10 +20,10 @@ use Rattle.qs_machine.specs.Credit.{recv_ended, send_ended, both_ended, settle}
 use Rattle.qs_machine.proofs.TableLaws.{lookup_open, lookup_each}
 use Rattle.qs_conn.specs.declared.by_dir.ByDir.{ByDir}
 use Rattle.qs_conn.specs.Ended.{one_if, recv_over, send_over, over, is_over, recounted, MayRecount, AreAllCounted}
-use Rattle.qs_conn.proofs.Untolds.{updated_other, slots_changed, recv_idle, send_idle, put_pieces, put_next, goes_less, put_old, current_by_base, acked_by_base, base_item, end_put}
+use Rattle.qs_conn.proofs.Untolds.{updated_other, slots_changed, put_pieces, put_next, goes_less, put_old, current_by_base, acked_by_base, base_item, end_put}
 use Rattle.std.proofs.lemmas.List.{append-nil, length-take-le}
 use Rattle.qs_wire.specs.LastStream.{last_stream_of}
-use Rattle.qs_wire.specs.Layout.{FrameValue, ack}
+use Rattle.qs_wire.specs.Layout.{FrameValue}
 use Rattle.qs_send.specs.declared.parts.Chunk.{Chunk}
 use Rattle.qs_send.specs.declared.piece.Piece.{Piece}
 use Rattle.qs_send.specs.declared.piece.Piece.TheVariants.{Data}
@@ -62,8 +62,8 @@ use Rattle.qs_machine.specs.Verdicts.{or_else, state_fault_in, credit_fault, byt
 use Rattle.qs_send.specs.Chunks.{has_unsent}
 use Rattle.qs_conn.specs.Sending.{Tells, TellsDue, TellsGoing, TellsItem, TellsWanted}
 use Rattle.qs_conn.proofs.Outboxes.{due_is}
-use Rattle.qs_send.specs.declared.piece.Item.TheVariants.{MaxData, MaxStreamData, MaxStreams, ResetStream, StopSending, DataBlocked, StreamDataBlocked, StreamsBlocked}
-use Rattle.qs_conn.specs.declared.carried.Carried.{Carried}
+use Rattle.qs_send.specs.declared.piece.Item.TheVariants.{MaxData, MaxStreams, DataBlocked, StreamsBlocked}
+use Rattle.qs_conn.specs.declared.due.Due.{Due}
 use Rattle.qs_conn.specs.declared.slot.Kind.{Kind}
 use Rattle.qs_conn.specs.Tasks.{IsQuietAt}
 use Rattle.qs_conn.specs.OwnCarried.{Kept}
@@ -676,11 +676,8 @@ pub memory_on : (c : Core) (room len room' len' left : ℕ) → room' ≡ room �
 memory_on c room len room' len' left same le h = elim h [ inl all ↦ inl (omega (arith, same, le, all)) | inr few ↦ inr few ]
 
 -- marks are no part of what is due
-pub memory_carried : (c : Core) (t : Carried) (xs : Kept) (room len left : ℕ) → HasMemory c room len left → HasMemory (record c { carried = t; own = xs }) room len left
-memory_carried c t xs room len left h = elim h [ inl all ↦ inl all | inr (few, still) ↦ inr (few, record { no_item = still.no_item; no_stream = still.no_stream }) ]
-
-pub memory_marks : (c : Core) (ins outs : Tables Bool) (room len left : ℕ) → HasMemory c room len left → HasMemory (record c { untold_recvs = ins; untold_sends = outs }) room len left
-memory_marks c ins outs room len left h = elim h [ inl all ↦ inl all | inr (few, still) ↦ inr (few, record { no_item = still.no_item; no_stream = still.no_stream }) ]
+pub memory_marks : (c : Core) (t : Due) (xs : Kept) (room len left : ℕ) → HasMemory c room len left → HasMemory (record c { due = t; own = xs }) room len left
+memory_marks c t xs room len left h = elim h [ inl all ↦ inl all | inr (few, still) ↦ inr (few, record { no_item = still.no_item; no_stream = still.no_stream }) ]
 
 -- nor is the count of the memory
 still_spare : (c : Core) (spare : ℕ) → IsStill c → IsStill (record c { outbox = record c.outbox { spare = spare } })
@@ -691,14 +688,15 @@ pub memory_begun : (c : Core) (room count : ℕ) (o : Outgoing) → o ≡ record
 memory_begun c room count o is h = grind (arith, nat_tests, still_spare)
 
 -- without a mark nothing of a stream is due
-pub still_unmarked : (c : Core) → IsCore c → ((n : ℕ) → IsQuietAt tasks.Bytes c.outbox n) → ((n : ℕ) (b : Bool) → lookup c.untold_sends n ≡ Some b → b ≡ false) → ((n : ℕ) (b : Bool) → lookup c.untold_recvs n ≡ Some b → b ≡ false) → IsStill c
-still_unmarked c h quiet sends recvs = record { no_item = item; no_stream = λ e n. no_goes c.outbox n (quiet n) c.limits c.recvs e }
-  where
-    item : (e : End) (kind : Kind) (n : ℕ) → IsIdle (end_of c e) (slot_at kind n)
-    item e kinds.ResetStream n = send_idle c.limits c.recvs c.outbox e c.untold_sends n (sends n) h.told_out kinds.ResetStream (inl refl)
-    item e kinds.StopSending n = recv_idle c.limits c.recvs c.outbox e c.untold_recvs n (recvs n) h.told_in kinds.StopSending (inl refl)
-    item e kinds.MaxStreamData n = recv_idle c.limits c.recvs c.outbox e c.untold_recvs n (recvs n) h.told_in kinds.MaxStreamData (inr refl)
-    item e kinds.StreamDataBlocked n = send_idle c.limits c.recvs c.outbox e c.untold_sends n (sends n) h.told_out kinds.StreamDataBlocked (inr refl)
+pub still_unmarked : (c : Core) → IsCore c → ((n : ℕ) → IsQuietAt tasks.Bytes c.outbox n) → ((kind : Kind) (n : ℕ) (e : End) → IsIdle (end_of c e) (slot_at kind n)) → IsStill c
+still_unmarked c h quiet idle = record { no_item = λ e kind n. idle kind n e; no_stream = λ e n. no_goes c.outbox n (quiet n) c.limits c.recvs e }
+
+-- what holds of the four kinds holds of each
+pub each_kind : (c : Core) → (let P : Kind → Type 0 = λ kind. (n : ℕ) (e : End) → IsIdle (end_of c e) (slot_at kind n) in P kinds.ResetStream → P kinds.StopSending → P kinds.MaxStreamData → P kinds.StreamDataBlocked → (kind : Kind) → P kind)
+each_kind c a b d f kinds.ResetStream = a
+each_kind c a b d f kinds.StopSending = b
+each_kind c a b d f kinds.MaxStreamData = d
+each_kind c a b d f kinds.StreamDataBlocked = f
 
 -- of the items the one that moves a half is of a stream
 abbrev IsOwn : Item → Type 0
@@ -752,8 +750,8 @@ module _ (c : Core) (n : ℕ) (chunk : Chunk) (left fresh : ℕ) (a : Allowed c.
   pub chunk_spare : (room len own : ℕ) → HasMemory c room len own → HasOneSpare room len c.outbox.spare
   chunk_spare room len own h fits = elim h [ inl all ↦ omega (arith, all, fits) | inr (few, still) ↦ absurd (still_chunk still) ]
 
-  pub chunk_memory : (o : Outgoing) (marks : Tables Bool) (room len room' end own : ℕ) → (HasSpare room len c.outbox.spare → HasSpare room' end o.spare) → HasMemory c room len own → HasMemory (record c { outbox = o; untold_sends = marks }) room' end (own - 0)
-  chunk_memory o marks room len room' end own spare h = elim h [ inl all ↦ inl (spare all) | inr (few, still) ↦ absurd (still_chunk still) ]
+  pub chunk_memory : (o : Outgoing) (t : Due) (room len room' end own : ℕ) → (HasSpare room len c.outbox.spare → HasSpare room' end o.spare) → HasMemory c room len own → HasMemory (record c { outbox = o; due = t }) room' end (own - 0)
+  chunk_memory o t room len room' end own spare h = elim h [ inl all ↦ inl (spare all) | inr (few, still) ↦ absurd (still_chunk still) ]
 
 -- how many items of the connection itself a slot has
 pub own_kind : (kind : Kind) (n : ℕ) → own_items (slot_at kind n) ≡ 0

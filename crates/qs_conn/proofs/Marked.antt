@@ -1,21 +1,20 @@
 -- Marks beside parts: each part that isn't marked has a property.
 use Rattle.std.specs.FinSet as set
-use Rattle.std.proofs.Math.ListN as list
 use Rattle.qs_conn.specs.declared.recv_marks.RecvTask.TheVariants as tasks
 use Rattle.std.proofs.lemmas.Bool.Decides.{nat_tests}
-use Rattle.std.proofs.Common.{◌≡◌, ℕ, zero, suc, ◌+◌, ◌-◌, ◌*◌, ◌/◌, ◌%◌, min, ◌<◌, ◌≤◌, ◌^◌, Bool, true, false, List, [], ◌∷◌, ◌++◌, map, length, get_or, replicate, Option, None, Some, slice_get, refl, sym, ap, ◌∙◌, subst, arith, inl, inr, set, Result, ◌⊎◌, Ok, Err, unwrap_or, not, ◌≢◌, ◌==◌, take, bit_and, max, w64, ◌&&◌, ◌||◌, is_some}
+use Rattle.std.proofs.Common.{◌≡◌, ℕ, zero, suc, ◌+◌, ◌-◌, ◌*◌, ◌/◌, ◌%◌, min, ◌<◌, ◌≤◌, ◌^◌, Bool, true, false, List, [], ◌∷◌, ◌++◌, map, length, get_or, replicate, Option, None, Some, slice_get, refl, sym, ap, ◌∙◌, subst, arith, inl, inr, set, Result, ◌⊎◌, Ok, Err, unwrap_or, not, ◌≢◌, ◌==◌, take, max, w64, ◌&&◌, ◌||◌, is_some}
 use Rattle.std.specs.List.{range_with_len}
 use Rattle.std.specs.Option.{IfSome, option_eq}
 use Rattle.std.proofs.lemmas.Bool.{cases_lt, both_ways, cases_eq, and_parts, not-true, true≢false, eqb-false, eq-eqb}
-use Rattle.std.proofs.lemmas.List.{length-append, length-replicate, get_or_past, set-get_or, set-append_right, length-set, length-take, get_or-set_same, get_or-set_other, get_or-take, get_or_read, take_all, append-nil, ext_get_or, length-map, get_or-map, map-append, map-set, take-map}
+use Rattle.std.proofs.lemmas.List.{length-append, length-replicate, get_or_past, set-get_or, length-set, length-take, get_or-set_same, get_or-set_other, get_or-take, get_or_read, take_all, append-nil, ext_get_or, length-map, get_or-map, map-append, map-set, take-map}
 use Rattle.std.proofs.lemmas.Option.{none-some, same_Some, get_or_from_slice_get, unwrap_or-slice_get, slice_get_within}
 use Rattle.std.specs.Result.{OnOk, OnErr}
-use Rattle.qs_conn.specs.Untold.{IsClear as IsUntoldClear}
-use Rattle.qs_conn.specs.Marks.{is_marked, AreMarked, IsBefore as IsMarkBefore, IsNextMark, HaveTo, least_of, IsAt, IsHeldOf, IsMarkedBeside, both, untold, IsUntold, HasNoMark, HasAllMarks, AreSummed, AreMarkedBelow, AreUnmarkedFrom, AreFull, AreEndsMarked, IsUntoldOf}
+use Rattle.qs_conn.specs.Marks.{IsClear as IsUntoldClear}
+use Rattle.qs_conn.specs.Marks.{is_marked, AreMarksFor, HasRoom, IsClearedFrom, IsWider, IsBefore as IsMarkBefore, IsNextMark, HaveTo, least_of, IsAt, IsHeldOf, IsMarkedBeside, both, untold, IsUntold, HasNoMark, HasAllMarks, AreSummed, AreMarkedBelow, AreUnmarkedFrom, AreFull, AreEndsMarked, IsUntoldOf}
 use Rattle.qs_machine.specs.Sums.{tables_of}
 use Rattle.qs_machine.specs.Tables.{Tables, lookup, widened, type_of, table, no_streams}
 use Rattle.qs_machine.proofs.TableEdits.{lookup_is, with_is, table_is, opened_updated}
-use Rattle.std.specs.Prelude.{option_map, slice_set}
+use Rattle.std.specs.Prelude.{option_map}
 use Rattle.qs_machine.specs.News.{IsLeast, IsHeld}
 use Rattle.qs_ranges.specs.declared.NoMemory.{NoMemory}
 use Rattle.qs_machine.specs.Heard.{is_told, IsToldBeside, IsForgotten}
@@ -26,9 +25,9 @@ use Rattle.qs_conn.specs.Hearing.{IsToldOf}
 use Rattle.std.proofs.lemmas.Grind.{common_steps, get_or-set_at}
 use Rattle.std.specs.Int.{bit_at, bit_not}
 use Rattle.std.proofs.lemmas.List.FromFn.{length-map-range_with_len, get_or-map-range_with_len}
-use Rattle.std.proofs.lemmas.Nat.Bits.{bit_at-zero, bit_at_and, bit_at_ones, bit_at_ones_above, bit_at-lt, bit_at_not}
+use Rattle.std.proofs.lemmas.Nat.Bits.{bit_at-zero, bit_at_ones, bit_at-lt, bit_at_not}
 use Rattle.qs_ranges.specs.Bits.{HasBit, IsBefore, IsLowestBit}
-use Rattle.qs_conn.specs.Words.{flag, flags, AreFlags, IsCutAt, IsWordOf}
+use Rattle.qs_conn.specs.Words.{flag, flags, AreFlags, IsWordOf}
 use Rattle.std.specs.Ordering.{nat_cmp}
 use Rattle.qs_recv.specs.Lane.{RecvLane, new_lane, raise, answer_by, read_answer, is_whole}
 use Rattle.qs_recv.specs.declared.half.Read.TheVariants.{Wait}
@@ -36,7 +35,7 @@ use Rattle.qs_recv.specs.News.{tells_something}
 use Rattle.qs_recv.specs.declared.credit.Share.{Share}
 use Rattle.qs_machine.specs.Credit.{recv_ended}
 use Rattle.qs_machine.proofs.EveryCall.{not_chosen}
-use Rattle.qs_conn.specs.RecvTasks.{has, has_one, marks_of, HasNone, HasOne, AreNoted}
+use Rattle.qs_conn.specs.RecvTasks.{has, has_one, HasNone, HasOne, AreNoted}
 use Rattle.qs_conn.specs.declared.recv_marks.RecvTask.{RecvTask}
 use Rattle.qs_conn.specs.declared.recv_marks.RecvMarks.{RecvMarks}
 
@@ -46,31 +45,6 @@ mark_past ms i le = get_or_past ms i false le
 -- a mark that is put where it stands already
 pub mark_is : (ms : List Bool) (i : ℕ) (b : Bool) → is_marked ms i ≡ b → set ms i b ≡ ms
 mark_is ms i b is = ap (set ms i) (sym is) ∙ set-get_or ms i false
-
-module _ {X : Type 0} (Q : X → Type 0) where
-  pub marked_len : (xs : List X) (ms : List Bool) → AreMarked Q xs ms → length ms ≡ length xs
-  marked_len [] [] h = refl
-  marked_len (x ∷ xs) (m ∷ ms) h = ap suc (marked_len xs ms h.1)
-  marked_len _ _ h = absurd h
-
-  -- a part without a mark
-  pub unmarked_at : (xs : List X) (ms : List Bool) (i : ℕ) (x : X) → AreMarked Q xs ms → slice_get xs i ≡ Some x → is_marked ms i ≡ false → Q x
-  unmarked_at [] [] i x h at no_mark = absurd (none-some x at)
-  unmarked_at (z ∷ xs) (m ∷ ms) zero x h at no_mark = subst Q (same_Some z x at) (h.0 no_mark)
-  unmarked_at (z ∷ xs) (m ∷ ms) (suc i) x h at no_mark = unmarked_at xs ms i x h.1 at no_mark
-  unmarked_at _ _ i x h at no_mark = absurd h
-
--- the next one of the new marks is set
-pub mark_more : (ms now : List Bool) (k n : ℕ) → k < n → now ≡ ms ++ (replicate k true ++ replicate (n - k) false) → set now (length ms + k) true ≡ ms ++ (replicate (k + 1) true ++ replicate (n - (k + 1)) false)
-mark_more ms now k n lt is = rw (is, left) (set-append_right ms (replicate k true ++ replicate (suc (n - (k + 1))) false) (length ms) (length ms + k) true refl (omega arith) ∙ ap (λ j. ms ++ set (replicate k true ++ replicate (suc (n - (k + 1))) false) j true) (omega arith) ∙ ap (λ xs. ms ++ xs) (at k (k + 1) (n - (k + 1)) refl))
-  where
-    left : n - k ≡ suc (n - (k + 1))
-    left = omega (arith, lt)
-
-    at : (i m j : ℕ) → m ≡ i + 1 → set (replicate i true ++ replicate (suc j) false) i true ≡ replicate m true ++ replicate j false
-    at zero (suc zero) j e = refl
-    at (suc i) (suc m) j e = ap (λ zs. true ∷ zs) (at i m j (omega (arith, e)))
-    at _ _ j e = absurd (omega (arith, e))
 
 -- Marks alone
 
@@ -363,12 +337,7 @@ module _ (told : Tables Bool) (k : ℕ) (marks : List Bool) (small : k < 4) (are
       least_by (IsToldOf told k) 0 None (λ n is. absurd (none-some n is))
       (λ n ge before p. both_ways (is_marked marks (n / 4)) (h.unmarked (n / 4) (omega arith) tt) (sym (told_mark_of n p.0) ∙ p.1))
 
--- ---- Flags as bits of words: one word, a list of them, and a search.
-
-pub bits_cut : (word bit : ℕ) → bit < 64 → IsCutAt word bit (bit_and word (1 * 2 ^ bit % 2 ^ 64 - 1))
-bits_cut word bit small = grind (arith, common_steps, bit_at_and, bit_at_ones, bit_at_ones_above)
-
--- Words
+-- ---- Flags as bits of words: a list of them, and a search.
 
 pub padded : {A : Type 0} (xs : List A) (n k : ℕ) (d : A) → get_or (xs ++ replicate n d) k d ≡ get_or xs k d
 padded xs n k d = grind (arith, common_steps)
@@ -397,12 +366,9 @@ flags_are ws count marks len each =
 pub index_below : (ws : List ℕ) (count index : ℕ) (marks : List Bool) → flags ws count ≡ marks → index < length marks → index < count
 index_below ws count index marks is lt = omega (arith, lt, ap length is, flags_len ws count)
 
--- nothing is opened or closed
+-- nothing is opened
 pub none_opened : (ws : List ℕ) (count to : ℕ) (marks : List Bool) → flags ws count ≡ marks → to ≤ count → marks ≡ marks ++ replicate (to - length marks) false
 none_opened ws count to marks is le = grind (arith, nat_tests, flags_len, append-nil)
-
-pub none_closed : (ws : List ℕ) (count to : ℕ) (marks : List Bool) → flags ws count ≡ marks → count ≤ to → marks ≡ take to marks
-none_closed ws count to marks is le = sym (take_all to marks (omega (arith, le, ap length is, flags_len ws count)))
 
 -- words are added
 flag_added : (ws : List ℕ) (n i : ℕ) → length ws ≤ n → flag (take n ws ++ replicate (n - length ws) 0) i ≡ flag ws i
@@ -427,17 +393,6 @@ module _ (ws now : List ℕ) (count to n len : ℕ) (are : AreFlags ws count) (m
 
   pub flags_grown : to < 2 ^ 64 → to ≤ 64 * n → 64 * n ≤ to + 64 → AreFlags now to
   flags_grown fits room tight = grind (arith, common_steps, length-append, replicate, length-take, length-replicate)
-
--- a word is cut, and those behind it leave
-module _ (ws : List ℕ) (count to last after : ℕ) (are : AreFlags ws count) (less : to < count) (read : last ≡ get_or (take (to / 64 + 1) ws) (to / 64) last) (cut : IsCutAt last (to % 64) after) where
-  flag_kept : (i : ℕ) → i < to → flag (set (take (to / 64 + 1) ws) (to / 64) after) i ≡ flag ws i
-  flag_kept i lt = grind (arith, common_steps, cases_eq, flag_of, set, get_or-set_other, get_or-take)
-
-  pub flags_closed : flags (set (take (to / 64 + 1) ws) (to / 64) after) to ≡ take to (flags ws count)
-  flags_closed =
-      flags_are (set (take (to / 64 + 1) ws) (to / 64) after) to (take to (flags ws count))
-      (omega (arith, less, flags_len ws count, length-take to (flags ws count)))
-      (λ i lt. get_or-take to (flags ws count) i false lt ∙ marked_is ws count i are ∙ sym (flag_kept i lt))
 
 -- a bit is set or cleared
 module _ (ws : List ℕ) (count index before after : ℕ) (is_set : Bool) (are : AreFlags ws count) (there : index < count) (read : before ≡ get_or ws (index / 64) before) (bit : HasBit before (index % 64) is_set after) where
@@ -540,29 +495,33 @@ marked_at p [] i is = absurd (true≢false (sym is))
 marked_at p (x ∷ xs) zero is = (x, refl, is)
 marked_at p (x ∷ xs) (suc i) is = marked_at p xs i is
 
-marked_by : {X : Type 0} (p : X → Bool) (xs : List X) → AreMarked (λ x. p x ≡ false) xs (map p xs)
-marked_by p [] = tt
-marked_by p (x ∷ xs) = (λ is. is, marked_by p xs)
-
 -- where no part passes
 pub none_has : {X : Type 0} (p : X → Bool) (xs : List X) (from : ℕ) → ((i : ℕ) (x : X) → slice_get xs i ≡ Some x → p x ≡ false) → IsLeast (IsAt (λ x. p x ≡ true) xs) from None
 none_has p xs from none = least_by (IsAt (λ x. p x ≡ true) xs) from None (λ n is. absurd (none-some n is)) (λ i ge before (x, at, is). both_ways (p x) (none i x at) is)
 
-module _ {X : Type 0} (p : X → Bool) (xs : List X) (ms : List Bool) (is : ms ≡ map p xs) where
-  pub are_marked : AreMarked (λ x. p x ≡ false) xs ms
-  are_marked = subst (AreMarked (λ x. p x ≡ false) xs) (sym is) (marked_by p xs)
+-- one of two rows that say the same is set in both
+set_alike : (ms bs : List Bool) (i : ℕ) (b : Bool) → ((j : ℕ) → is_marked ms j ≡ is_marked bs j) → i < length ms → i < length bs → (j : ℕ) → is_marked (set ms i b) j ≡ is_marked (set bs i b) j
+set_alike ms bs i b same there here j = grind (arith, nat_tests, cases_eq, get_or-set_at, get_or-set_other)
 
+-- or set in the longer one and added to the other
+next_alike : (ms bs : List Bool) (n : ℕ) (b : Bool) → ((j : ℕ) → is_marked ms j ≡ is_marked bs j) → n ≡ length bs → n < length ms → (j : ℕ) → is_marked (set ms n b) j ≡ is_marked (bs ++ b ∷ []) j
+next_alike ms bs n b same len there j = grind (arith, common_steps, cases_eq, cases_lt, get_or-set_at, get_or-set_other, get_or_past)
+
+cut_alike : (ms bs now : List Bool) (n : ℕ) → ((j : ℕ) → is_marked ms j ≡ is_marked bs j) → IsClearedFrom n ms now → (j : ℕ) → is_marked now j ≡ is_marked (take n bs) j
+cut_alike ms bs now n same cleared j = elim (cases_lt j n) [
+  | inl lt ↦ cleared.kept j lt ∙ same j ∙ sym (get_or-take n bs j false lt)
+  | inr ge ↦ cleared.none j ge ∙ sym (mark_past (take n bs) j (omega (arith, ge, length-take n bs)))
+]
+
+module _ {X : Type 0} (p : X → Bool) (xs : List X) (ms : List Bool) (are : AreMarksFor p xs ms) where
   pub mark_of : (i : ℕ) (x : X) → i < length xs → x ≡ get_or xs i x → is_marked ms i ≡ p x
-  mark_of i x there at = ap (λ l. is_marked l i) is ∙ get_or-map p xs i x false there ∙ ap p (sym at)
+  mark_of i x there at = are.tell i ∙ get_or-map p xs i x false there ∙ ap p (sym at)
 
   pub mark_at : (i : ℕ) (x : X) → slice_get xs i ≡ Some x → is_marked ms i ≡ p x
   mark_at i x at = mark_of i x (slice_get_within xs i x at) (sym (get_or_from_slice_get xs i x x at))
 
   pub at_mark : (i : ℕ) → is_marked ms i ≡ true → IsAt (λ x. p x ≡ true) xs i
-  at_mark i marked = marked_at p xs i (ap (λ l. is_marked l i) (sym is) ∙ marked)
-
-  pub exact_marked_small : length xs ≤ 2 ^ 60 → (i : ℕ) → is_marked ms i ≡ true → i < 2 ^ 60
-  exact_marked_small few i marked = (let there = marked_below ms i marked in let len = ap length is ∙ length-map xs p in omega (arith, there, len, few))
+  at_mark i marked = marked_at p xs i (sym (are.tell i) ∙ marked)
 
   -- a search over the marks is one over the parts
   pub marked_least : (from : ℕ) (r : Option ℕ) → IsNextMark ms from r → IsLeast (IsAt (λ x. p x ≡ true) xs) from r
@@ -570,9 +529,54 @@ module _ {X : Type 0} (p : X → Bool) (xs : List X) (ms : List Bool) (is : ms �
       least_by (IsAt (λ x. p x ≡ true) xs) from r (λ n found. ((next.found n found).0, at_mark n (next.found n found).1))
       (λ i ge before (x, at, has). both_ways (p x) (sym (mark_at i x at) ∙ next.unmarked i ge before) has)
 
-  pub found_small : length xs ≤ 2 ^ 60 → (r : Option ℕ) → ((n : ℕ) → r ≡ Some n → is_marked ms n ≡ true) → IfSome r (λ n. n < 2 ^ 60)
-  found_small few None marked = tt
-  found_small few (Some n) marked = exact_marked_small few n (marked n refl)
+  pub found_small : (r : Option ℕ) → ((n : ℕ) → r ≡ Some n → is_marked ms n ≡ true) → IfSome r (λ n. n < 2 ^ 60)
+  found_small None marked = tt
+  found_small (Some n) marked = omega (arith, marked_below ms n (marked n refl), are.few)
+
+  -- the next part has no mark yet
+  pub unmarked_next : (n : ℕ) → n ≡ length xs → is_marked ms n ≡ false
+  unmarked_next n at = are.tell n ∙ mark_past (map p xs) n (omega (arith, at, length-map xs p))
+
+  pub marks_wider : (now : List Bool) → IsWider ms now → AreMarksFor p xs now
+  marks_wider now wide = record { tell = λ i. wide.same i ∙ are.tell i; room = omega (arith, are.room, wide.longer); few = wide.few are.few }
+
+  -- a part was changed and then looked at
+  pub marks_set : (i : ℕ) (y : X) → i < length xs → AreMarksFor p (set xs i y) (set ms i (p y))
+  marks_set i y there = record {
+    tell = λ j. set_alike ms (map p xs) i (p y) are.tell (omega (arith, there, are.room)) (omega (arith, there, length-map xs p)) j ∙ ap (λ bs. is_marked bs j) (sym (map-set p xs i y));
+    room = rw (length-set, length-set) are.room;
+    few = rw length-set are.few;
+  }
+
+  -- one more opens
+  pub marks_next : (n : ℕ) (x : X) (b : Bool) → n ≡ length xs → HasRoom (n + 1) ms → p x ≡ b → AreMarksFor p (xs ++ x ∷ []) (set ms n b)
+  marks_next n x b at room is = record {
+    tell = λ j. next_alike ms (map p xs) n b are.tell (at ∙ sym (length-map xs p)) (omega (arith, room)) j ∙ ap (λ c. is_marked (map p xs ++ c ∷ []) j) (sym is) ∙ ap (λ bs. is_marked bs j) (sym (map-append p xs (x ∷ [])));
+    room = omega (arith, at, room, length-set ms n b, length-append xs (x ∷ []));
+    few = rw length-set are.few;
+  }
+
+  pub marks_same : (n : ℕ) (x : X) → n ≡ length xs → HasRoom (n + 1) ms → p x ≡ false → AreMarksFor p (xs ++ x ∷ []) ms
+  marks_same n x at room is = subst (AreMarksFor p (xs ++ x ∷ [])) (mark_is ms n false (unmarked_next n at)) (marks_next n x false at room is)
+
+  -- some leave
+  pub marks_fewer : (n : ℕ) (now : List Bool) → IsClearedFrom n ms now → AreMarksFor p (take n xs) now
+  marks_fewer n now cleared = record {
+    tell = λ j. cut_alike ms (map p xs) now n are.tell cleared j ∙ ap (λ bs. is_marked bs j) (take-map p n xs);
+    room = omega (arith, are.room, cleared.len, length-take n xs);
+    few = omega (arith, are.few, cleared.len);
+  }
+
+-- A row of which memory was asked for more
+
+pub wider_same : (ms : List Bool) → IsWider ms ms
+wider_same ms = record { same = λ i. refl; longer = omega arith; few = λ few. few }
+
+pub wider_opened : {E : Type 0} (r : Result (Unit {0}) E) (ms now : List Bool) (count : ℕ) → count ≤ 2 ^ 60 → OnOk r (now ≡ ms ++ replicate (count - length ms) false) → OnErr r (now ≡ ms) → IsWider ms now
+wider_opened r ms now count small ok err = grind (arith, nat_tests, length-append, length-replicate, padded)
+
+pub room_opened : {E : Type 0} (r : Result (Unit {0}) E) (ms now : List Bool) (index : ℕ) → OnOk r (now ≡ ms ++ replicate (index + 64 - length ms) false) → OnOk r (HasRoom index ms → HasRoom (index + 1) now)
+room_opened r ms now index ok = grind (arith, nat_tests, length-append, length-replicate)
 
 -- ---- The least mark of a row that changes, and what sums it up.
 
@@ -717,11 +721,6 @@ module _ (t : RecvTask) (recvs : Tables RecvLane) (ms : List Bool) (k : ℕ) (sm
 pub untold_within : (ms ts : List Bool) (i : ℕ) → is_marked (untold (both ms ms) ts) i ≡ true → i < length ms
 untold_within ms ts i is = marked_below ms i (ap (λ xs. is_marked xs i) (sym (both_self ms)) ∙ (left_at (both ms ms) ts i is).0)
 
--- an open stream has a mark
-pub open_within : (recvs : Tables RecvLane) (n : ℕ) (o : Option RecvLane) → lookup recvs n ≡ o → is_some o ≡ true → n / 4 < length (table recvs (n % 4))
-unfolding lookup
-open_within recvs n o at is = grind (arith, nat_tests, slice_get_within)
-
 -- A reader of such a lane waits, where what was told was an end or a reset (RFC 9000, sections 2.2 and 3.2)
 
 waits_by : (o : Option ℕ) (l : RecvLane) (size : ℕ) → tells_something (answer_by o l 1) ≡ false → answer_by o l size ≡ Wait
@@ -741,27 +740,10 @@ waits l size told none = go l.reader_done refl
     ]
     go false is = waits_by l.reset_code l size (ap (λ b. not b && tells_something (read_answer l 1)) (sym is) ∙ none tasks.Readable)
 
--- a lane was changed and then looked at
-pub noted_again : (xs : List RecvLane) (old new : RecvMarks) (i : ℕ) (y : RecvLane) → ((t : RecvTask) → marks_of new t ≡ slice_set (marks_of old t) i (has t y)) → AreNoted xs old → AreNoted (list.set xs i y) new
-noted_again xs old new i y looked h t = looked t ∙ ap (λ ms. slice_set ms i (has t y)) (h t) ∙ sym (map-set (has t) xs i y)
-
--- some lanes leave
-pub noted_fewer : (n : ℕ) (xs : List RecvLane) (old new : RecvMarks) → ((t : RecvTask) → marks_of new t ≡ take n (marks_of old t)) → AreNoted xs old → AreNoted (take n xs) new
-noted_fewer n xs old new is h t = is t ∙ ap (take n) (h t) ∙ take-map (has t) n xs
-
 -- a lane begins without an answer
 pub begins_without : (t : RecvTask) (window : ℕ) (share : Share) → HasNone t (new_lane window share)
 begins_without tasks.Readable window share = ap tells_something (not_chosen _ _ Wait (set.contains-empty nat_cmp 0))
 begins_without tasks.Ended window share = refl
-
-begun_without : (t : RecvTask) (window : ℕ) (share : Share) (lo n : ℕ) → map (has t) (map (λ (i : ℕ). new_lane window share) (range_with_len lo n)) ≡ replicate n false
-begun_without t window share lo zero = refl
-begun_without t window share lo (suc n) = rw (begins_without t window share, begun_without t window share (lo + 1) n) refl
-
--- lanes open
-pub noted_opened : (window : ℕ) (share : Share) (xs now : List RecvLane) (old new : RecvMarks) (count n m : ℕ) → now ≡ xs ++ map (λ (i : ℕ). new_lane window share) (range_with_len (length xs) n) → n ≤ m → m ≤ n → m ≡ count - length xs
-    → ((t : RecvTask) → marks_of new t ≡ marks_of old t ++ replicate (count - length (marks_of old t)) false) → AreNoted xs old → AreNoted now new
-noted_opened window share xs now old new count n m is le ge missing at h t = grind (arith, nat_tests, length-map, begun_without, map-append)
 
 pub has_raised : (t : RecvTask) (l : RecvLane) → has t (raise l) ≡ has t l
 has_raised t l = grind (arith, nat_tests)
@@ -771,4 +753,4 @@ raised_marks t [] = refl
 raised_marks t (x ∷ xs) = rw (has_raised t x, raised_marks t xs) refl
 
 pub noted_raised : (xs : List RecvLane) (marks : RecvMarks) → AreNoted xs marks → AreNoted (map raise xs) marks
-noted_raised xs marks h t = h t ∙ sym (raised_marks t xs)
+noted_raised xs marks h t = let m = h t in record { tell = λ i. m.tell i ∙ ap (λ bs. is_marked bs i) (sym (raised_marks t xs)); room = rw length-map m.room; few = m.few }

@@ -21,7 +21,7 @@ use Rattle.qs_send.specs.declared.parts.SendFault.{SendFault}
 use Rattle.qs_send.specs.declared.parts.SendFault.TheVariants.{NoMemory as SendNoMemory}
 use Rattle.qs_send.specs.declared.piece.Piece.{Piece}
 use Rattle.qs_machine.specs.Tables.{Tables, table, with_table, lookup, update, updated, open_to, no_streams, total, widened}
-use Rattle.qs_machine.specs.Sums.{or_none, or_no_sending, tables_of, no_sending}
+use Rattle.qs_machine.specs.Sums.{or_none, or_no_sending, tables_of}
 use Rattle.qs_machine.proofs.TablesAfter.{updated_back, update_back}
 use Rattle.qs_machine.proofs.TableLaws.{total_update, total_open, lookup_same, table_same}
 use Rattle.qs_machine.proofs.Carried.{some_is, IsShorter, shortened_is, first_carried, get_new}
@@ -30,7 +30,7 @@ use Rattle.qs_machine.proofs.LaneTables.{lookup_lanes, lane_there, lanes_updated
 use Rattle.qs_machine.proofs.Ties.{ties_none, ties_updated, ties_opened, ties_closed, ties_acked, ties_lost, ties_item_gone}
 use Rattle.std.proofs.Math.ListN.{set}
 use Rattle.std.proofs.lemmas.List.{set-get_or, length-map, drop-drop}
-use Rattle.qs_machine.proofs.TableEdits.{half_is, on_ok, opened_is, table_is, with_is}
+use Rattle.qs_machine.proofs.TableEdits.{on_ok, opened_is, table_is, with_is}
 use Rattle.qs_ranges.specs.declared.NoMemory.{NoMemory}
 use Rattle.qs_send.specs.declared.parts.Chunk.{Chunk}
 use Rattle.qs_send.specs.declared.piece.Item.TheVariants.{ResetStream}
@@ -41,6 +41,8 @@ use Rattle.qs_machine.specs.FrameStep.{without_first as frames_without_first}
 use Rattle.qs_conn.specs.Runs.{held_out}
 use Rattle.qs_ranges.proofs.Sets.{missing_from-more}
 use Rattle.qs_send.specs.Chunks.{WasSent}
+use Rattle.qs_send.specs.Writable.{is_writable}
+use Rattle.qs_send.proofs.Steps.{write_nothing}
 use Rattle.qs_send.specs.Records.{without_first}
 use Rattle.qs_send.proofs.Outstanding.{get_other-without_first}
 use Rattle.qs_conn.specs.Rows.{joined, IsAlone, Meets, IsRow, IsRowAt, without_row, row_acked, first_len, AcksDown, AcksRow, MayRunOutAt}
@@ -128,6 +130,9 @@ lane_is t n = grind (arith, nat_tests, lookup_lanes)
 
 pub lane_now : (e now : Outgoing) (t : Tables Sending) (n : ℕ) → e ≡ now → e.sends ≡ lanes_of t → or_none (lookup now.sends n) ≡ (or_no_sending (lookup t n)).lane
 lane_now e now t n is sends = ap (λ x. or_none (lookup x n)) (ap (λ (o : Outgoing). o.sends) (sym is) ∙ sends) ∙ lane_is t n
+
+pub lookup_now : (e now : Outgoing) (t : Tables Sending) (n : ℕ) (s : Sending) → e ≡ now → e.sends ≡ lanes_of t → lookup t n ≡ Some s → lookup now.sends n ≡ Some s.lane
+lookup_now e now t n s is sends there = ap (λ x. lookup x n) (ap (λ (o : Outgoing). o.sends) (sym is) ∙ sends) ∙ lane_there t n s there
 
 -- Values
 
@@ -278,6 +283,15 @@ pub write_asks : (e now : Outgoing) (t : Tables Sending) (n : ℕ) (bytes : List
     → (r ≡ Err SendNoMemory → 0 < accepted (or_no_sending (lookup t n)).lane (length bytes)) → r ≡ Err SendNoMemory → 0 < accepted (or_none (lookup now.sends n)) (length bytes)
 write_asks e now t n bytes r is sends h none = subst (λ (l : SendLane). 0 < accepted l (length bytes)) (sym (lane_now e now t n is sends)) (h none)
 
+-- a write to a half with no room
+pub wrote_none : (e now : Outgoing) (t : Tables Sending) (n : ℕ) (bytes : List ℕ) (s : Sending) → e ≡ now → e.sends ≡ lanes_of t → lookup t n ≡ Some s → is_writable (or_no_sending (lookup t n)).lane ≡ false → refusal s.lane ≡ None
+    → (let l = or_none (lookup now.sends n) in (refusal l ≡ None) × (0 ≡ accepted l (length bytes)) × (now ≡ on_lane n (λ x. write_lane x (take 0 bytes)) now))
+wrote_none e now t n bytes s is sends there shut free =
+    let lane = ap or_none (lookup_now e now t n s is sends there) in
+    let none : is_writable s.lane ≡ false = grind (arith, there, shut) in
+    let zero : 0 ≡ accepted s.lane (length bytes) = grind (arith, nat_tests) in
+    (ap refusal lane ∙ free, zero ∙ ap (λ l. accepted l (length bytes)) (sym lane), sym (same_step e now (lanes_of t) is (sym sends)) ∙ half_step e now t t n (λ x. after_write x []) (λ l. write_lane l []) is sends (λ x. refl) (sym (updated_back t n (λ x. after_write x []) s there (sym (write_nothing s)))))
+
 pub box_open : (t t' : Tables Sending) (m : Records) (r : Bool) (ps : List Piece) (k sent spare free : ℕ) → IsOutbox t m r ps k sent spare free → {E : Type 0} (n limit buffer : ℕ) (res : Result (Unit {0}) E)
     → OnOk res (t' ≡ open_to t n (λ j. new_sending j limit buffer)) → OnErr res (t' ≡ t) → IsOutbox t' m r ps k sent spare free
 box_open t t' m r ps k sent spare free h n limit buffer (Ok a) ok err = box_opened t t' m r ps k sent spare free h n limit buffer ok
@@ -299,9 +313,6 @@ no_lookup e now t n is sends none = go (lookup now.sends n) refl (sym (open_now 
     go None e h = e
     go (Some l) e h = absurd (both_ways true h refl)
 
-pub lookup_now : (e now : Outgoing) (t : Tables Sending) (n : ℕ) (s : Sending) → e ≡ now → e.sends ≡ lanes_of t → lookup t n ≡ Some s → lookup now.sends n ≡ Some s.lane
-lookup_now e now t n s is sends there = ap (λ x. lookup x n) (ap (λ (o : Outgoing). o.sends) (sym is) ∙ sends) ∙ lane_there t n s there
-
 -- The four lists of sending halves: what a call of one list is to the tables
 
 -- as many lanes as halves
@@ -316,10 +327,6 @@ module _ (ls : List (List Sending)) (n k i : ℕ) (d : List Sending) (len : leng
   pub closed_is : (ys : List Sending) (count : ℕ) → ys ≡ take count (get_or ls k d) → tables_of (set ls k ys) ≡ with_table (tables_of ls) (n % 4) (take count (table (tables_of ls) (n % 4)))
   closed_is ys count is = with_is ls n k ys len kind ∙ ap (with_table (tables_of ls) (n % 4)) (is ∙ ap (take count) (sym (table_is ls n k d len kind)))
 
-  -- the half that a caller knows of the stream
-  pub half_known : (s : Sending) → i ≡ n / 4 → lookup (tables_of ls) n ≡ Some s → s ≡ get_or (get_or ls k d) i no_sending
-  half_known s index at = ap or_no_sending (sym at) ∙ half_is ls n k i d len kind index
-
   pub opened_ok : {E : Type 0} (j : ℕ) (ys : List Sending) (limit buffer : ℕ) (r : Result (Unit {0}) E) → j ≡ n % 4 → i ≡ n / 4
       → OnOk r (ys ≡ widened (get_or ls k d) (i + 1) (λ x. new_sending (x * 4 + j) limit buffer)) → OnOk r (tables_of (set ls k ys) ≡ open_to (tables_of ls) n (λ m. new_sending m limit buffer))
   opened_ok j ys limit buffer r same index h =
@@ -329,18 +336,17 @@ module _ (ls : List (List Sending)) (n k i : ℕ) (d : List Sending) (len : leng
 pub opened_err : {E : Type 0} (ls : List (List Sending)) (k : ℕ) (d ys : List Sending) (r : Result (Unit {0}) E) → OnErr r (ys ≡ get_or ls k d) → OnErr r (tables_of (set ls k ys) ≡ tables_of ls)
 opened_err ls k d ys r h = on_error r _ _ (same_is ls k d ys) h
 
--- The half that a call edits, by its place
+-- The half that a call edits
 
 pub record Known (now : Outgoing) (t : Tables Sending) (n : ℕ) (s : Sending) : Type 0 where
   pub at : lookup t n ≡ Some s
   pub law : IsLawful s
   pub has : HasSending now n s
 
-pub known : (e now : Outgoing) (ls : List (List Sending)) (n k i : ℕ) (d : List Sending) → e ≡ now → e.sends ≡ lanes_of (tables_of ls) → length ls ≡ 4 → k ≡ n % 4 → i ≡ n / 4 → is_some (lookup now.sends n) ≡ true
-    → IsLawful (get_or (get_or ls k d) i no_sending) → ((s : Sending) → lookup (tables_of ls) n ≡ Some s → IsTied e.outstanding n s) → Known now (tables_of ls) n (get_or (get_or ls k d) i no_sending)
-known e now ls n k i d is sends len kind index open_half law tied =
-    let t = tables_of ls in
-    let at : lookup t n ≡ Some (get_or (get_or ls k d) i no_sending) = half_found t n (half_there e now t n is sends open_half) ∙ ap Some (half_is ls n k i d len kind index) in
+pub known : (e now : Outgoing) (t : Tables Sending) (n : ℕ) → e ≡ now → e.sends ≡ lanes_of t → is_some (lookup now.sends n) ≡ true
+    → IsLawful (or_no_sending (lookup t n)) → ((s : Sending) → lookup t n ≡ Some s → IsTied e.outstanding n s) → Known now t n (or_no_sending (lookup t n))
+known e now t n is sends open_half law tied =
+    let at = half_found t n (half_there e now t n is sends open_half) in
     record { at = at; law = law; has = sending_is e now t n _ is sends at law (tied _ at) }
 
 -- ---- A piece of an outbox is acknowledged or lost.

@@ -4,10 +4,10 @@ use Rattle.std.specs.FinSet as sets
 use Rattle.qs_conn.specs.declared.send_marks.Task.TheVariants as tasks
 use Rattle.std.proofs.lemmas.Bool.Decides.{nat_tests}
 use Rattle.std.proofs.lemmas.Grind.{common_steps}
-use Rattle.std.proofs.Common.{◌≡◌, ℕ, zero, suc, ◌+◌, ◌*◌, ◌%◌, ◌/◌, ◌<◌, ◌≤◌, List, [], ◌∷◌, ◌++◌, map, take, drop, length, Option, Some, None, is_some, true, slice_get, slice_set, refl, sym, ap, ◌∙◌, subst, arith, ◌-◌, not, cond, ◌^◌, min, get_or, Bool, ◌&&◌, ◌||◌, ◌==◌, nat_lt, false, replicate, inl, inr}
-use Rattle.std.proofs.lemmas.List.{length-append, length-map, length-take, length-drop, take_more, map-append, map-set, take-map}
+use Rattle.std.proofs.Common.{◌≡◌, ℕ, zero, suc, ◌+◌, ◌*◌, ◌%◌, ◌/◌, ◌<◌, ◌≤◌, List, [], ◌∷◌, ◌++◌, map, take, drop, length, Option, Some, None, is_some, true, slice_get, slice_set, refl, sym, ap, ◌∙◌, subst, arith, ◌-◌, not, cond, ◌^◌, min, get_or, Bool, ◌&&◌, ◌||◌, ◌==◌, nat_lt, false, inl, inr}
+use Rattle.std.proofs.lemmas.List.{length-append, length-map, length-take, length-drop, take_more}
 use Rattle.qs_send.specs.Lane.{SendLane, Sending, new_sending, new_lane as new_send_lane, after_sent, new_lane}
-use Rattle.qs_machine.specs.Tables.{Tables, table, with_table, lookup, update, updated, total, open_to}
+use Rattle.qs_machine.specs.Tables.{Tables, table, with_table, lookup, update, updated, total, open_to, widened}
 use Rattle.qs_machine.specs.Ends.{End, on_send, is_own, is_uni, first_send_limit, opened_by_peer}
 use Rattle.qs_machine.specs.Sums.{changed, stored_on, tables_of}
 use Rattle.qs_machine.proofs.TableLaws.{table_same, with_same, value, total_le, total_both, total_open}
@@ -40,11 +40,12 @@ use Rattle.qs_conn.specs.Tasks.{Stays, counted, AreAllMarked, AreMarkedBefore, A
 use Rattle.qs_conn.specs.declared.send_marks.Moves.{Moves}
 use Rattle.std.specs.Ordering.{nat_cmp}
 use Rattle.std.proofs.lemmas.Bool.{both_ways, cases_lt, true≢false, and_parts, or_parts, false_from_ne_true}
-use Rattle.std.proofs.lemmas.List.FromFn.{length-map-range_with_len}
 use Rattle.qs_send.specs.Writable.{is_writable}
 use Rattle.qs_conn.specs.declared.send_marks.Task.{Task}
 use Rattle.qs_conn.specs.declared.send_marks.SendMarks.{SendMarks}
-use Rattle.qs_conn.proofs.Marked.{mark_of}
+use Rattle.qs_conn.specs.Marks.{is_marked, HasRoom, IsClearedFrom, IsWider}
+use Rattle.std.proofs.Math.Seq.{take-append_seam}
+use Rattle.qs_conn.proofs.Marked.{mark_of, marks_set, marks_fewer, marks_wider, marks_next, unmarked_next}
 
 module _ {X : Type 0} where
   with_twice : (t : Tables X) (k : ℕ) (xs ys : List X) → with_table (with_table t k xs) k ys ≡ with_table t k ys
@@ -459,9 +460,6 @@ unsent_below l is = let (alive, below) = and_parts (not (is_some l.was_reset)) (
 
 -- Marks
 
-pub marks_there : (xs : List Sending) (marks : SendMarks) (i : ℕ) → AreAllMarked xs marks → i < length xs → (t : Task) → i < length (marks_of marks t)
-marks_there xs marks i h there t = rw (h t, length-map) there
-
 pub marks_read : (xs : List Sending) (marks : SendMarks) (i : ℕ) (s : Sending) → AreAllMarked xs marks → i < length xs → s ≡ get_or xs i s → AreMarksOf marks i s
 marks_read xs marks i s h there at t = mark_of (has t) xs (marks_of marks t) (h t) i s there at
 
@@ -473,18 +471,19 @@ marked_before moves.Room marks i s now are stays = (s, are, stays)
 marked_before moves.All marks i s now are stays = tt
 
 -- a half was changed and then looked at
-pub all_looked : (xs : List Sending) (old new : SendMarks) (n k m j i : ℕ) (y : Sending) → ((t : Task) → marks_of new t ≡ slice_set (marks_of old t) i (has t y)) → (length xs ≤ 2 ^ 60) × AreAllMarked xs old × AreSums xs n k → AreSums (set xs i y) m j
+pub all_looked : (xs : List Sending) (old new : SendMarks) (n k m j i : ℕ) (y : Sending) → i < length xs → ((t : Task) → marks_of new t ≡ slice_set (marks_of old t) i (has t y)) → (length xs ≤ 2 ^ 60) × AreAllMarked xs old × AreSums xs n k → AreSums (set xs i y) m j
     → (length (set xs i y) ≤ 2 ^ 60) × AreAllMarked (set xs i y) new × AreSums (set xs i y) m j
-all_looked xs old new n k m j i y looked h sums = (rw length-set h.0, λ t. looked t ∙ ap (λ ms. slice_set ms i (has t y)) (h.1 t) ∙ sym (map-set (has t) xs i y), sums)
+all_looked xs old new n k m j i y there looked h sums = (rw length-set h.0, λ t. rw (looked t) (marks_set (has t) xs (marks_of old t) (h.1 t) i y there), sums)
 
 -- some halves leave
-pub all_fewer : (xs now : List Sending) (old new : SendMarks) (sum kept n : ℕ) → now ≡ take n xs → ((t : Task) → marks_of new t ≡ take n (marks_of old t)) → sum_by promised_of (take n xs) ≡ sum_by promised_of xs → sum_by kept_of (take n xs) ≡ sum_by kept_of xs → (length xs ≤ 2 ^ 60) × AreAllMarked xs old × AreSums xs sum kept
-    → (length now ≤ 2 ^ 60) × AreAllMarked now new × AreSums now sum kept
-all_fewer xs now old new sum kept n is at same still h = grind (arith, nat_tests, length-take, take-map, sums_taken)
+pub all_fewer : (xs now : List Sending) (old new : SendMarks) (sum kept n : ℕ) → now ≡ take n xs → ((t : Task) → IsClearedFrom n (marks_of old t) (marks_of new t)) → sum_by promised_of (take n xs) ≡ sum_by promised_of xs → sum_by kept_of (take n xs) ≡ sum_by kept_of xs
+    → (length xs ≤ 2 ^ 60) × AreAllMarked xs old × AreSums xs sum kept → (length now ≤ 2 ^ 60) × AreAllMarked now new × AreSums now sum kept
+all_fewer xs now old new sum kept n at cleared same still h =
+    (rw (at, length-take) (omega (arith, h.0)), λ t. rw at (marks_fewer (has t) xs (marks_of old t) (h.1 t) n (marks_of new t) (cleared t)), sums_taken xs now sum kept n at same still h.2)
 
--- what was opened is taken back
-pub all_undone : (xs now : List Sending) (old new : SendMarks) (sum kept : ℕ) → now ≡ xs → ((t : Task) → marks_of new t ≡ marks_of old t) → (length xs ≤ 2 ^ 60) × AreAllMarked xs old × AreSums xs sum kept → (length now ≤ 2 ^ 60) × AreAllMarked now new × AreSums now sum kept
-all_undone xs now old new sum kept is at h = rw is (h.0, (λ t. at t ∙ h.1 t), h.2)
+-- memory was asked for more marks
+pub all_wider : (xs now : List Sending) (old new : SendMarks) (sum kept : ℕ) → now ≡ xs → ((t : Task) → IsWider (marks_of old t) (marks_of new t)) → (length xs ≤ 2 ^ 60) × AreAllMarked xs old × AreSums xs sum kept → (length now ≤ 2 ^ 60) × AreAllMarked now new × AreSums now sum kept
+all_wider xs now old new sum kept is wide h = rw is (h.0, (λ t. marks_wider (has t) xs (marks_of old t) (h.1 t) (marks_of new t) (wide t)), h.2)
 
 -- a half begins with what its limit and its buffer let it have
 begins_writable : (id limit buffer : ℕ) → is_writable (new_lane id limit buffer) ≡ nat_lt 0 buffer
@@ -498,17 +497,25 @@ begins_with tasks.Writable id limit buffer = begins_writable id limit buffer
 begins_with tasks.Funded id limit buffer = ap (λ b. b && nat_lt 0 limit) (begins_writable id limit buffer)
 begins_with _ id limit buffer = refl
 
-begun_with : (t : Task) (kind limit buffer lo n : ℕ) → map (has t) (map (λ (i : ℕ). new_sending (i * 4 + kind) limit buffer) (range_with_len lo n)) ≡ replicate n (begins t limit buffer)
-begun_with t kind limit buffer lo zero = refl
-begun_with t kind limit buffer lo (suc n) = rw (begins_with t (lo * 4 + kind) limit buffer, begun_with t kind limit buffer (lo + 1) n) refl
+-- one more opens
+module _ (xs : List Sending) (old wide : SendMarks) (i : ℕ) (at : i ≡ length xs) (more : (t : Task) → IsWider (marks_of old t) (marks_of wide t)) (marked : AreAllMarked xs old) where
+  widely : AreAllMarked xs wide
+  widely t = marks_wider (has t) xs (marks_of old t) (marked t) (marks_of wide t) (more t)
 
--- halves open
-pub all_opened : (kind limit buffer : ℕ) (xs now : List Sending) (old new : SendMarks) (sum kept count n m : ℕ) → count ≤ 2 ^ 60 → now ≡ xs ++ map (λ (i : ℕ). new_sending (i * 4 + kind) limit buffer) (range_with_len (length xs) n) → n ≤ m → m ≤ n → m ≡ count - length xs
-    → ((t : Task) → marks_of new t ≡ marks_of old t ++ replicate (count - length (marks_of old t)) (begins t limit buffer)) → (length xs ≤ 2 ^ 60) × AreAllMarked xs old × AreSums xs sum kept → (length now ≤ 2 ^ 60) × AreAllMarked now new × AreSums now sum kept
-all_opened kind limit buffer xs now old new sum kept count n m small is le ge missing at h =
-    let begin : ℕ → Sending = λ i. new_sending (i * 4 + kind) limit buffer in
-    let few : length (xs ++ map begin (range_with_len (length xs) n)) ≤ 2 ^ 60 = omega (arith, h.0, small, le, ge, missing, length-append xs (map begin (range_with_len (length xs) n)), length-map-range_with_len begin (length xs) n) in
-    (rw is few, marks, sums_opened kind limit buffer xs now sum kept (range_with_len (length xs) n) is h.2)
-  where
-    marks : AreAllMarked now new
-    marks t = grind (arith, nat_tests, length-map, begun_with, map-append)
+  pub none_next : (t : Task) → is_marked (marks_of wide t) i ≡ false
+  none_next t = unmarked_next (has t) xs (marks_of wide t) (widely t) i at
+
+  pub all_next : (kind limit buffer : ℕ) (now : List Sending) (new : SendMarks) (sum kept : ℕ) → i < 2 ^ 60 → now ≡ xs ++ new_sending (i * 4 + kind) limit buffer ∷ [] → ((t : Task) → HasRoom i (marks_of old t) → HasRoom (i + 1) (marks_of wide t))
+      → ((t : Task) → marks_of new t ≡ slice_set (marks_of wide t) i (begins t limit buffer)) → AreSums xs sum kept → (length now ≤ 2 ^ 60) × AreAllMarked now new × AreSums now sum kept
+  all_next kind limit buffer now new sum kept few is room begun sums =
+      let id = i * 4 + kind in (
+        rw (is, length-append) (omega (arith, at, few)),
+        λ t. rw (is, begun t) (marks_next (has t) xs (marks_of wide t) (widely t) i (new_sending id limit buffer) (begins t limit buffer) at (room t (omega (arith, at, (marked t).room))) (begins_with t id limit buffer)),
+        sums_opened kind limit buffer xs now sum kept (i ∷ []) is sums,
+      )
+
+-- halves that opened count for nothing
+pub sum_back : (f : Sending → ℕ) (kind limit buffer : ℕ) → ((i : ℕ) → f (new_sending i limit buffer) ≡ 0) → (xs now : List Sending) (n count : ℕ) → now ≡ widened xs n (λ i. new_sending (i * 4 + kind) limit buffer) → count ≡ length xs → sum_by f (take count now) ≡ sum_by f now
+sum_back f kind limit buffer none xs now n count is at =
+    let ks = range_with_len (length xs) (n - length xs) in
+    rw (is, at) (ap (sum_by f) (take-append_seam xs _) ∙ omega (arith, sum_by-append f xs (map (λ (i : ℕ). new_sending (i * 4 + kind) limit buffer) ks), sum_begun f kind limit buffer none ks))

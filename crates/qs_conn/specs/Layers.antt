@@ -1,6 +1,6 @@
 -- Of private contracts.
 -- What the private layers of an endpoint keep beside their values.
-use Rattle.std.specs.Prelude.{◌≡◌, ℕ, ◌≤◌, ◌<◌, ◌^◌, Bool, if◌then◌else◌, List, length, Option, None, Some, is_some, is_none, ⊤}
+use Rattle.std.specs.Prelude.{◌≡◌, ℕ, ◌<◌, ◌^◌, Bool, if◌then◌else◌, Option, None, Some, is_some, is_none, ⊤}
 use Rattle.qs_recv.specs.Lane.{RecvLane, is_whole}
 use Rattle.qs_calls.specs.declared.uses.UseFault.{UseFault}
 use Rattle.qs_calls.specs.declared.uses.UseFault.TheVariants as uses

@@ -13,8 +13,7 @@ pub mod RecvTasks
 pub mod RecvEdits
 pub mod Words
 pub mod Sending
-pub mod Untold
-pub mod Carried
+pub mod Due
 pub mod OwnCarried
 pub mod Named
 pub mod Seen

@@ -1,6 +1,6 @@
 -- Of private contracts.
 -- Which streams may have something to send or to tell: a mark for each index, and streams that have nothing.
-use Rattle.std.specs.Prelude.{◌≡◌, ℕ, ◌+◌, ◌*◌, ◌/◌, ◌^◌, ◌≤◌, ◌<◌, ◌⊎◌, length, Bool, true, false, not, ◌&&◌, List, [], ◌∷◌, slice_index_or, slice_get, slice_set, min, Option, None, Some, ⊤}
+use Rattle.std.specs.Prelude.{◌≡◌, ℕ, ◌+◌, ◌*◌, ◌/◌, ◌^◌, ◌≤◌, ◌<◌, ◌⊎◌, length, map, Bool, true, false, not, ◌&&◌, List, [], ◌∷◌, slice_index_or, slice_get, slice_set, min, Option, None, Some}
 pub use Rattle.qs_ranges.specs.Bits.{IsBefore}
 use Rattle.qs_machine.specs.Tables.{Tables, type_of, lookup, widened}
 use Rattle.qs_machine.specs.Sums.{changed}
@@ -15,6 +15,14 @@ use Rattle.qs_conn.specs.Filling.{slot_of}
 -- whether an index is marked
 abbrev pub is_marked : List Bool → ℕ → Bool
 is_marked marks i = slice_index_or marks i false
+
+-- a half has no mark
+abbrev pub IsUnmarked : Bool → Type 0
+IsUnmarked b = b ≡ false
+
+-- no index has a mark
+abbrev pub IsClear : List Bool → Type 0
+IsClear marks = (i : ℕ) → is_marked marks i ≡ false
 
 -- the indexes that are marked in both lists
 abbrev pub both : List Bool → List Bool → List Bool
@@ -36,12 +44,27 @@ IsMarkedBeside n old new = new ≡ slice_set (widened old (n + 1) (λ i. false))
 abbrev pub IsUnmarkedBeside : ℕ → List Bool → List Bool → Type 0
 IsUnmarkedBeside n old new = new ≡ changed old n (λ mark. false) (slice_get old n)
 
--- each part that isn't marked has the property
-abbrev pub AreMarked : {X : Type 0} → (X → Type 0) → List X → List Bool → Type 0
-AreMarked Q [] [] = ⊤
-AreMarked Q [] (m ∷ ms) = ⊥
-AreMarked Q (x ∷ xs) [] = ⊥
-AreMarked Q (x ∷ xs) (m ∷ ms) = (m ≡ false → Q x) × AreMarked Q xs ms
+-- there is room for the marks of so many parts, in whole blocks
+abbrev pub HasRoom : ℕ → List Bool → Type 0
+HasRoom n marks = (n + 63) / 64 * 64 ≤ length marks
+
+-- The marks tell which parts pass a test, and past the parts there is none.
+pub record AreMarksFor {X : Type 0} (p : X → Bool) (xs : List X) (marks : List Bool) : Type 0 where
+  pub tell : (i : ℕ) → is_marked marks i ≡ is_marked (map p xs) i
+  pub room : HasRoom (length xs) marks
+  pub few : length marks ≤ 2 ^ 60
+
+-- more indexes, and no mark more
+pub record IsWider (old new : List Bool) : Type 0 where
+  pub same : (i : ℕ) → is_marked new i ≡ is_marked old i
+  pub longer : length old ≤ length new
+  pub few : length old ≤ 2 ^ 60 → length new ≤ 2 ^ 60
+
+-- the marks from an index on are taken away
+pub record IsClearedFrom (n : ℕ) (old new : List Bool) : Type 0 where
+  pub len : length new ≡ length old
+  pub kept : (i : ℕ) → i < n → is_marked new i ≡ is_marked old i
+  pub none : (i : ℕ) → n ≤ i → is_marked new i ≡ false
 
 -- the lesser of two answers
 abbrev pub least_of : Option ℕ → Option ℕ → Option ℕ

@@ -11,7 +11,7 @@ use Rattle.qs_machine.specs.Ends.{End}
 use Rattle.qs_machine.specs.Outgoing.{IsIdle, sent_sum}
 use Rattle.qs_machine.specs.Standing.{KeepsCredit}
 use Rattle.qs_conn.specs.declared.middle.Core.{Core}
-use Rattle.qs_conn.specs.Carried.{AreCarried}
+use Rattle.qs_conn.specs.Due.{AreDue, packets_of}
 use Rattle.qs_conn.specs.OwnCarried.{AreOwn}
 use Rattle.qs_conn.specs.Ended.{CountsFit}
 use Rattle.qs_conn.specs.declared.slot.Kind.{Kind}
@@ -21,19 +21,16 @@ use Rattle.qs_conn.specs.Filling.{LimitsFit, present_of, end_by, slot_at, HasSpa
 use Rattle.qs_conn.specs.Layers.{ClosingFits}
 use Rattle.qs_conn.specs.Marks.{IsIdle as IsIdleAt}
 use Rattle.qs_conn.specs.Settled.{AreNextWhere}
-use Rattle.qs_conn.specs.Untold.{AreTold, TellsAt, SendTells}
 
 -- What holds of the tables also while a packet is in the making: the peer is within its credit and this end within the peer's, the limits
--- have a text, the counts of ended streams are right, of a half without a mark nothing is to be told that wasn't, which present items of
--- halves are outstanding is marked, and of the connection's own items their values tell it.
+-- have a text, the counts of ended streams are right, marks lead to what is due of halves, and of the connection's own items their values
+-- tell it.
 pub record IsCore (c : Core) : Type 0 where
   pub sound : KeepsCredit c.limits.role c.limits.settings (present_of c.limits) c.recvs c.limits.granted
   pub fits : LimitsFit c.limits
   pub credit : sent_sum c.outbox.sends ≤ c.limits.known_data
   pub counts : CountsFit c.limits.role c.limits.settings c.recvs c.outbox.sends c.ended c.limits.granted_streams.bidi c.limits.granted_streams.uni
-  pub told_in : AreTold (TellsAt c.limits.role c.limits.settings) c.recvs c.outbox.outstanding c.outbox.acked c.untold_recvs
-  pub told_out : AreTold SendTells c.outbox.sends c.outbox.outstanding c.outbox.acked c.untold_sends
-  pub carried : AreCarried c.recvs c.outbox.sends c.outbox.outstanding c.carried
+  pub due : AreDue c.limits.role c.limits.settings c.recvs c.outbox.sends (packets_of c.outbox) c.due
   pub own : AreOwn c.limits c.outbox.outstanding c.own
 
 -- no packet is in the making

@@ -1,16 +1,15 @@
 -- Of private contracts.
 -- One receiving half is changed by a closure, and what is kept beside the halves of a type.
-use Rattle.std.specs.Prelude.{◌≡◌, ℕ, ◌+◌, ◌-◌, ◌%◌, ◌^◌, ◌≤◌, List, length, map, slice_set, slice_index_or, Option}
+use Rattle.std.specs.Prelude.{◌≡◌, ℕ, ◌+◌, ◌-◌, ◌%◌, ◌^◌, ◌≤◌, List, length}
 use Rattle.std.specs.Borrow.{MutBor}
 use Rattle.std.specs.Fn.{Once}
-use Rattle.qs_recv.specs.Lane.{RecvLane, new_lane, highest, taken, noted}
-use Rattle.qs_recv.specs.declared.credit.Share.TheVariants.{Half}
+use Rattle.qs_recv.specs.Lane.{RecvLane, highest, taken, noted}
 use Rattle.qs_machine.specs.declared.tally.Tally.{Tally}
 use Rattle.qs_machine.specs.Sums.{stored_on, tally_on, IsPaid, EachLawful}
-use Rattle.qs_machine.specs.Tables.{Tables, lookup, updated, total}
-use Rattle.qs_machine.specs.Verdicts.{or_new}
+use Rattle.qs_machine.specs.Tables.{Tables, total}
 use Rattle.qs_conn.specs.declared.touches.Touches.{Touches}
 use Rattle.qs_conn.specs.declared.recv_marks.RecvMarks.{RecvMarks}
+use Rattle.qs_conn.specs.Marks.{HasRoom}
 use Rattle.qs_conn.specs.RecvTasks.{AreNoted}
 use Rattle.qs_conn.specs.Touches.{IsSettled, AreSettled}
 
@@ -36,19 +35,6 @@ pub record IsCalm (x x' : RecvLane) : Type 0 where
 -- each call leaves such a lane
 abbrev pub LeavesCalm : {F R : Type 0} → Once F (MutBor RecvLane × (MutBor (List ℕ) × Unit {0})) (R × (MutBor RecvLane × (MutBor (List ℕ) × Unit {0}))) → F → RecvLane → List ℕ → Type 0
 LeavesCalm {F} {R} g f x y = (r : R) (x' : RecvLane) (y' : List ℕ) → OnceInto g f y y' x r x' → IsCalm x x'
-
--- the lane at an index became one that the call may leave
-pub record IsEdited {R : Type 0} (leaves : RecvLane → R → RecvLane → Type 0) (old : List RecvLane) (i : ℕ) (r : R) (new : List RecvLane) : Type 0 where
-  pub lane : RecvLane
-  pub left : leaves (slice_index_or old i (new_lane 0 Half)) r lane
-  pub is : new ≡ slice_set old i lane
-
--- the lane of a stream did: it was changed by whatever function gives the one, and where that is the lane as it was nothing changed
-pub record IsEditedIn {R : Type 0} (leaves : RecvLane → R → RecvLane → Type 0) (old : Tables RecvLane) (n : ℕ) (r : R) (new : Tables RecvLane) : Type 0 where
-  pub lane : RecvLane
-  pub left : leaves (or_new (lookup old n) 0 Half) r lane
-  pub is : (f : RecvLane → RecvLane) → lane ≡ f (or_new (lookup old n) 0 Half) → new ≡ updated old n f (lookup old n)
-  pub same : lane ≡ or_new (lookup old n) 0 Half → new ≡ old
 
 -- What is kept beside the lanes of a type
 
@@ -85,7 +71,7 @@ pub record AreKept (lanes : List RecvLane) (tally : Tally) (touched : Touches) (
   pub counted : tally ≡ wrapped (tally_on lanes)
   pub lawful : EachLawful lanes
   pub settled : AreSettled touched lanes
-  pub room : length touched.marks ≡ length lanes
+  pub room : HasRoom (length lanes) touched.marks
   pub few : length lanes ≤ 2 ^ 60
   pub noted : AreNoted lanes marks
 

@@ -1,6 +1,6 @@
 -- Of private contracts.
 -- Which sending halves have something for a packet or for their owner, by what it is, and those that have not.
-use Rattle.std.specs.Prelude.{◌≡◌, ℕ, ◌≤◌, ◌<◌, ◌&&◌, ◌||◌, ◌==◌, nat_lt, Bool, true, false, if◌then◌else◌, List, map, None, Some, is_some, ⊤}
+use Rattle.std.specs.Prelude.{◌≡◌, ℕ, ◌≤◌, ◌<◌, ◌⊎◌, ◌&&◌, ◌||◌, ◌==◌, nat_lt, Bool, true, false, if◌then◌else◌, List, Some, is_some, ⊤}
 use Rattle.std.specs.List.{list_any, range_with_len}
 use Rattle.std.specs.FinSet as set
 use Rattle.qs_send.specs.declared.parts.Chunk.{Chunk}
@@ -20,7 +20,7 @@ use Rattle.qs_conn.specs.declared.send_marks.Task.{Task}
 use Rattle.qs_conn.specs.declared.send_marks.Task.TheVariants as tasks
 use Rattle.qs_conn.specs.declared.send_marks.Search.{Search}
 use Rattle.qs_conn.specs.declared.send_marks.SendMarks.{SendMarks}
-use Rattle.qs_conn.specs.Marks.{is_marked, both, untold, IsAt}
+use Rattle.qs_conn.specs.Marks.{is_marked, both, untold, AreMarksFor, IsAt}
 
 -- whether a byte below n is due (RFC 9000, section 13.3)
 unfoldable pub is_due_below : Sending → ℕ → Bool
@@ -53,12 +53,9 @@ HasTask t s = has t s ≡ true
 
 -- whether a half that begins with a limit and a buffer has something of a kind (RFC 9000, section 3.1)
 abbrev pub begins : Task → ℕ → ℕ → Bool
-begins tasks.Bytes limit buffer = false
-begins tasks.Again limit buffer = false
 begins tasks.Writable limit buffer = nat_lt 0 buffer
 begins tasks.Funded limit buffer = nat_lt 0 buffer && nat_lt 0 limit
-begins tasks.Ended limit buffer = false
-begins tasks.Stopped limit buffer = false
+begins other limit buffer = false
 
 -- the marks for a task
 abbrev pub marks_of : SendMarks → Task → List Bool
@@ -71,7 +68,7 @@ marks_of marks tasks.Stopped = marks.stopped
 
 -- the marks tell which halves have something
 abbrev pub AreAllMarked : List Sending → SendMarks → Type 0
-AreAllMarked halves marks = (t : Task) → marks_of marks t ≡ map (has t) halves
+AreAllMarked halves marks = (t : Task) → AreMarksFor (has t) halves (marks_of marks t)
 
 -- the marks of an index are those of a half
 abbrev pub AreMarksOf : SendMarks → ℕ → Sending → Type 0
@@ -134,9 +131,13 @@ IsOpen t n = is_some (lookup t n) ≡ true
 abbrev pub IsDoneAfter : Outgoing → ℕ → Chunk → Type 0
 IsDoneAfter o n c = (s : Sending) → HasSending o n s → IsQuiet tasks.Bytes (after_sent s c)
 
--- the stream's own limit holds nothing back (RFC 9000, section 4.1)
-abbrev pub IsFree : Outgoing → ℕ → Type 0
-IsFree o n = (s : Sending) → HasSending o n s → s.lane.written ≤ s.lane.limit
+-- a chunk that goes leaves the stream below its limit, or where it stood (RFC 9000, section 4.1)
+abbrev pub IsFree : Outgoing → ℕ → Chunk → Type 0
+IsFree o n c = (s : Sending) → HasSending o n s → (s.lane.written ≤ s.lane.limit) ⊎ ((after_sent s c).lane.sent_end ≡ s.lane.sent_end)
+
+-- the stream stands below its limit
+abbrev pub IsShort : Outgoing → ℕ → Type 0
+IsShort o n = (s : Sending) → HasSending o n s → s.lane.sent_end < s.lane.limit
 
 -- those of the marks that an owner was told of, or those that it wasn't, as a search asks
 abbrev pub sought_of : Search → List Bool → List Bool → List Bool

@@ -23,8 +23,3 @@ pub record AreFlags (words : List ℕ) (count : ℕ) : Type 0 where
   pub tight : 64 * length words ≤ count + 64
   pub fits : count < 2 ^ 64
   pub unset : (i : ℕ) → count ≤ i → flag words i ≡ false
-
--- the bits of a word below one stay, the others are cleared
-pub record IsCutAt (before bit after : ℕ) : Type 0 where
-  pub below : (i : ℕ) → i < bit → bit_at after i ≡ bit_at before i
-  pub above : (i : ℕ) → bit ≤ i → bit_at after i ≡ 0

@@ -1,8 +1,8 @@
 //! Flags of indexes, as bits of words.
-ghost use Rattle.std.specs.Prelude.{◌≡◌, ◌++◌, ◌*◌, ◌-◌, ◌<◌, ◌≤◌, ◌==◌, ◌^◌, [], List, Bool, false, length, take, slice_set, replicate, OnOk, OnErr};
+ghost use Rattle.std.specs.Prelude.{◌≡◌, ◌++◌, ◌*◌, ◌-◌, ◌<◌, ◌≤◌, ◌==◌, ◌^◌, [], List, Bool, false, length, slice_set, replicate, OnOk, OnErr};
 ghost use Rattle.std.specs.Int.{bit_at};
 ghost use Rattle.qs_conn.specs.Marks.{is_marked, both, untold};
-ghost use Rattle.qs_conn.specs.Words.{IsCutAt, IsWordOf};
+ghost use Rattle.qs_conn.specs.Words.{IsWordOf};
 
 use qs_ranges::{NoMemory, with_bit};
 use std::alloc::Global;
@@ -91,18 +91,6 @@ impl Bits {
         }
     }
 
-    pub(crate) fn close_to(&mut self, count: usize)
-        ensures { self.new ≡ take count self.old }
-    {
-        if self.count <= count {
-            return;
-        }
-        let last = count / FLAGS_PER_WORD;
-        self.words.truncate(last + 1);
-        self.words[last] = cut_at(self.words[last], count % FLAGS_PER_WORD);
-        self.count = count;
-    }
-
     #[tactic(auto, using(crate::proofs::Marked::mark_in))]
     #[inline(always)]
     pub(crate) fn has(&self, index: usize) -> bool
@@ -182,12 +170,4 @@ fn has_bit(word: u64, bit: usize) -> bool
     ensures { result ≡ (bit_at word bit == 1) }
 {
     (word >> bit) & 1 == 1
-}
-
-#[tactic(auto, using(crate::proofs::Marked::bits_cut))]
-fn cut_at(word: u64, bit: usize) -> u64
-    requires { bit < 64 }
-    ensures { IsCutAt word bit result }
-{
-    word & ((1 << bit) - 1)
 }

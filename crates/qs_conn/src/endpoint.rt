@@ -11,7 +11,7 @@ ghost use Rattle.qs_conn.specs.Held.{IsHeldBy};
 ghost use Rattle.qs_machine.specs.Standing.{IsWithinCredit};
 
 use crate::by_dir::ByDir;
-use crate::carried::Carried;
+use crate::due::Due;
 use crate::held::Held;
 use crate::limits::Limits;
 use crate::middle::Core;
@@ -20,7 +20,6 @@ use crate::own_carried::OwnCarried;
 use crate::places::type_of;
 use crate::recv_tables::RecvTables;
 use crate::setup::{setup_fault, wide_setup_fault};
-use crate::untold::Untold;
 use qs_calls::{Closed, Closing, PeerLimits, Settings, SetupFault, Share, Tuning};
 use qs_ranges::RangeSet;
 use qs_recv::{next_limit, step_of};
@@ -175,9 +174,7 @@ impl Endpoint {
                 },
                 outbox: Outbox::new(alloc),
                 recvs: RecvTables::new(alloc),
-                untold_recvs: Untold::new(alloc),
-                untold_sends: Untold::new(alloc),
-                carried: Carried::new(alloc),
+                due: Due::new(alloc),
                 own: OwnCarried::new(),
                 ended: ByDir::new(0, 0),
             },
@@ -258,9 +255,7 @@ impl Endpoint {
         if self.is_settled {
             return;
         }
-        self.core
-            .recvs
-            .raise_all(&mut self.core.untold_recvs, &mut self.core.carried.limits);
+        self.core.recvs.raise_all(&mut self.core.due.limits);
         let taken = self.core.recvs.tally().taken;
         let settings = &self.core.limits.settings;
         let step = self.core.limits.tuning.count_step;

@@ -14,7 +14,7 @@ ghost use Rattle.qs_machine.specs.Ends.{End};
 ghost use Rattle.qs_machine.specs.Outgoing.{IsCarried, MayTell, sent_sum, on_lane, chunk_put};
 ghost use Rattle.qs_machine.specs.Sums.{or_none};
 ghost use Rattle.qs_conn.specs.Filling.{frame_of_item, HasSpare, HasOneSpare, LeavesRest, PutsItem, no_slot, InPacket, Begun, IsAckLeft, IsAckText, IsPassed, MayGo, stream_frame};
-ghost use Rattle.qs_conn.specs.Tasks.{IsDoneAfter, IsFree};
+ghost use Rattle.qs_conn.specs.Tasks.{IsDoneAfter, IsFree, IsShort};
 
 use crate::outbox::Outbox;
 use qs_calls::Fill;
@@ -170,7 +170,7 @@ pub(crate) fn cut_to(chunk: Chunk, bytes: usize) -> Chunk
 pub(crate) struct Put {
     pub len: usize,
     pub is_done: bool,
-    /// Then the stream needs no look at whether it is blocked.
+    /// Then the chunk didn't bring the stream to its limit with more written.
     pub is_free: bool,
 }
 
@@ -189,7 +189,8 @@ pub(crate) fn put_chunk(
     requires small { sent_sum (on_lane stream (λ l. sent_lane l chunk) outbox.old).sends ≤ MAX_VARINT }
     ensures outbox { outbox.new ≡ chunk_put stream chunk outbox.old }
     ensures done { result.is_done ≡ true → IsDoneAfter outbox.old stream chunk }
-    ensures free { result.is_free ≡ true → IsFree outbox.old stream }
+    ensures free { result.is_free ≡ true → IsFree outbox.old stream chunk }
+    ensures held { result.is_free ≡ false → IsShort outbox.old stream }
     ensures text { take result.len out.new ≡ take len out.old ++ canonical (stream_frame outbox.old stream chunk) }
     ensures count { length (bytes_of (or_none (lookup outbox.old.sends stream)) chunk) ≡ chunk.len }
     ensures end { result.len ≡ len + frame_len stream chunk.offset chunk.len }

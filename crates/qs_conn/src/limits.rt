@@ -79,7 +79,7 @@ impl Limits {
 
     // No stream is looked at.
     #[inline(always)]
-    #[tactic(auto, using(crate::proofs::Carrieds::own_covered, crate::proofs::Untolds::of_slot))]
+    #[tactic(auto, using(crate::proofs::Owns::own_covered, crate::proofs::Untolds::of_slot))]
     fn has_told_blocked(&self, outbox: &Outbox, own: &OwnCarried) -> bool
         requires { AreOwn self.now outbox.now.outstanding own.now }
         ensures { result ≡ true → (recvs : Tables RecvLane) (e : End) → IsIdle (end_by self.now recvs outbox.now e) slots.DataBlocked }

@@ -1,7 +1,6 @@
 //! Which streams of one type may have something to send or to tell.
-ghost use Rattle.std.specs.Prelude.{List, Bool, None, ◌≡◌, ◌++◌, ◌+◌, ◌*◌, ◌-◌, ◌<◌, ◌≤◌, ◌^◌, ℕ, [], true, false, Some, length, take, slice_set, replicate, OnOk, OnErr};
-ghost use Rattle.qs_conn.specs.Marks.{is_marked, IsNextMark, AreSummed, AreUnmarkedFrom, least_of, both, untold};
-ghost use Rattle.qs_conn.specs.Untold.{IsClear};
+ghost use Rattle.std.specs.Prelude.{List, Bool, None, ◌≡◌, ◌++◌, ◌+◌, ◌*◌, ◌-◌, ◌<◌, ◌≤◌, ◌^◌, ℕ, [], true, false, Some, length, slice_set, replicate, OnOk, OnErr};
+ghost use Rattle.qs_conn.specs.Marks.{IsClear, is_marked, HasRoom, IsClearedFrom, IsWider, IsNextMark, AreSummed, AreUnmarkedFrom, least_of, both, untold};
 
 use crate::bits::{Bits, Both, FLAGS_PER_WORD, Left, Row};
 use crate::told_marks::ToldMarks;
@@ -57,7 +56,6 @@ impl Marks {
     }
 
     pub(crate) fn has(&self, index: usize) -> bool
-        requires { index < length self.now }
         ensures { result ≡ is_marked self.now index }
     {
         self.marks.has(index)
@@ -84,30 +82,33 @@ impl Marks {
         self.marks.open_to(count)
     }
 
-    #[tactic(auto, using(crate::proofs::Marked::mark_more))]
-    pub(crate) fn open_marked_to(&mut self, count: usize) -> Result<(), NoMemory>
-        ensures ok { OnOk result (self.new ≡ self.old ++ replicate (count - length self.old) true) }
-        ensures err { OnErr result (self.new ≡ self.old) }
-    {
-        let before = self.len();
-        let missing = count.saturating_sub(before);
-        self.open_to(count)?;
-        for opened in 0..missing {
-            self.set(before + opened, true);
-        }
-        Ok(())
-    }
-
-    pub(crate) fn close_to(&mut self, count: usize)
-        ensures { self.new ≡ take count self.old }
-    {
-        self.marks.close_to(count);
-        self.first = least_from(0, &self.marks, &self.words);
-    }
-
+    /// Makes room for an index, where all below it have room. It comes in blocks, so that mostly it is there.
     #[inline(always)]
+    #[tactic(auto, using(crate::proofs::Marked::wider_same, crate::proofs::Marked::wider_opened, crate::proofs::Marked::room_opened))]
+    pub(crate) fn make_room(&mut self, index: usize) -> Result<(), NoMemory>
+        requires { index < 2 ^ 60 }
+        ensures wider { IsWider self.old self.new }
+        ensures ok { OnOk result (HasRoom index self.old → HasRoom (index + 1) self.new) }
+    {
+        if index % FLAGS_PER_WORD > 0 {
+            return Ok(());
+        }
+        self.open_to(index + FLAGS_PER_WORD)
+    }
+
+    /// Takes away each mark from an index on.
+    pub(crate) fn clear_from(&mut self, count: usize)
+        ensures { IsClearedFrom count self.old self.new }
+    {
+        for index in count..self.len() {
+            self.set(index, false);
+        }
+    }
+
+    /// Where there is room for the index: past it none is marked.
+    #[inline(always)]
+    #[tactic(auto, using(crate::proofs::Marked::marked_below))]
     pub(crate) fn set(&mut self, index: usize, is_marked: bool)
-        requires { index < length self.old }
         ensures { self.new ≡ slice_set self.old index is_marked }
     {
         // Most marks stay as they are.
@@ -123,11 +124,13 @@ impl Marks {
 
     // Both apart, so that a caller that changes nothing pays for one look at the mark.
     #[inline(never)]
-    #[tactic(auto, using(crate::proofs::Marked::summed_set, crate::proofs::Marked::next_marked, crate::proofs::Marked::unmarked_set))]
+    #[tactic(auto, using(crate::proofs::Marked::summed_set, crate::proofs::Marked::next_marked, crate::proofs::Marked::unmarked_set, std::proofs::lemmas::List::set_past))]
     fn turn_on(&mut self, index: usize)
-        requires { index < length self.old }
         ensures { self.new ≡ slice_set self.old index true }
     {
+        if index >= self.len() {
+            return;
+        }
         self.marks.set(index, true);
         self.words.set(index / FLAGS_PER_WORD, true);
         self.first = least_index(self.first, index);

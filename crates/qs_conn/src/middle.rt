@@ -4,22 +4,20 @@ ghost use Rattle.qs_machine.specs.Tables.{table};
 ghost use Rattle.qs_conn.specs.Ended.{is_over};
 
 use crate::by_dir::ByDir;
-use crate::carried::Carried;
+use crate::due::Due;
 use crate::endpoint::{is_uni, role_bit};
 use crate::limits::Limits;
 use crate::outbox::Outbox;
 use crate::own_carried::OwnCarried;
 use crate::places::type_of;
 use crate::recv_tables::RecvTables;
-use crate::untold::Untold;
 use qs_wire::StreamId;
 
 mod acking;
-mod carrying;
 mod filling;
 mod losing;
+mod noting;
 mod sendable;
-mod unmarking;
 
 /// The limits, the streams and the packets: what a packet is filled from, and what an ACK or a loss changes. Apart from received packet
 /// numbers and the close, so that proofs of these carry less.
@@ -28,11 +26,7 @@ pub(crate) struct Core {
     pub limits: Limits,
     pub outbox: Outbox,
     pub recvs: RecvTables,
-    /// Of which receiving halves a limit or a stop may still have to be sent.
-    pub untold_recvs: Untold,
-    /// Of which sending halves a reset or a limit may still have to be sent.
-    pub untold_sends: Untold,
-    pub carried: Carried,
+    pub due: Due,
     pub own: OwnCarried,
     pub ended: ByDir<u64>,
 }

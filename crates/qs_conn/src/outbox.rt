@@ -15,7 +15,8 @@ ghost use Rattle.qs_machine.specs.Outgoing.{AreApartIn, no_packets, with_sends, 
 use crate::holds::sum_held;
 use crate::piece_room::PieceRoom;
 use crate::places::{index_of, type_of};
-use crate::send_lanes::SendLanes;
+use crate::send_lanes::{SendLanes, Setting};
+use crate::send_marks::{Moves, Task};
 use crate::told::ToldItems;
 use halves::{half_of, is_open};
 use qs_calls::SendReport;
@@ -257,6 +258,7 @@ impl Outbox {
         lanes.close_to(count);
     }
 
+    #[tactic(auto, using(crate::proofs::Outboxes::half_there))]
     pub(crate) fn write(&mut self, stream: StreamId, bytes: &[u8]) -> Result<usize, SendFault>
         requires { is_some (lookup self.old.sends stream) ≡ true }
         ensures accepted { let lane = or_none (lookup self.old.sends stream) in
@@ -265,22 +267,31 @@ impl Outbox {
             IfErr result (λ fault. (self.new ≡ self.old) × (fault ≡ unwrap_or (refusal lane) SendFault.NoMemory)) }
         ensures grows { result ≡ Err SendFault.NoMemory → 0 < accepted (or_none (lookup self.old.sends stream)) (length bytes.now) }
     {
-        halves::learn_lawful(&self.types, stream);
-        let lanes = &mut self.types[type_of(stream)];
-        lanes.write(index_of(stream), bytes)
+        // A write to a full buffer costs no more than its marks.
+        if !halves::has(&self.types, stream, Task::Writable) {
+            match half_of(&self.types, stream).refusal() {
+                Some(fault) => return Err(fault),
+                None => return Ok(0),
+            }
+        }
+        let types = &mut self.types;
+        let over = Err(SendFault::Finished);
+        halves::edit(types, stream, over, Moves::Room, |half| half.write(bytes))
     }
 
+    #[tactic(auto, using(crate::proofs::Outboxes::half_there))]
     pub(crate) fn finish(&mut self, stream: StreamId) -> Result<(), SendFault>
         requires { is_some (lookup self.old.sends stream) ≡ true }
         ensures answer { result ≡ answer_of (refusal (or_none (lookup self.old.sends stream))) }
         ensures ok { OnOk result (self.new ≡ on_lane stream finish_lane self.old) }
         ensures err { OnErr result (self.new ≡ self.old) }
     {
-        halves::learn_lawful(&self.types, stream);
-        let lanes = &mut self.types[type_of(stream)];
-        lanes.finish(index_of(stream))
+        let types = &mut self.types;
+        let over = Err(SendFault::Finished);
+        halves::edit(types, stream, over, Moves::End, |half| half.finish())
     }
 
+    #[tactic(auto, using(crate::proofs::Outboxes::half_there))]
     pub(crate) fn reset(&mut self, stream: StreamId, code: u64) -> Result<(), SendFault>
         requires open { is_some (lookup self.old.sends stream) ≡ true }
         requires fits { code ≤ MAX_VARINT }
@@ -288,17 +299,25 @@ impl Outbox {
         ensures after { self.new ≡ on_lane stream (λ l. reset_lane l code) self.old }
         ensures err { OnErr result (self.new ≡ self.old) }
     {
-        let lanes = &mut self.types[type_of(stream)];
-        lanes.reset(index_of(stream), code)
+        let types = &mut self.types;
+        let over = Err(SendFault::Finished);
+        halves::edit(types, stream, over, Moves::All, |half| half.reset(code))
     }
 
+    #[tactic(auto, using(crate::proofs::Outboxes::half_there))]
     pub(crate) fn stopped(&mut self, stream: StreamId, code: u64, owner_answers: bool)
         requires open { is_some (lookup self.old.sends stream) ≡ true }
         requires fits { code ≤ MAX_VARINT }
         ensures { self.new ≡ on_lane stream (λ l. stop_taken owner_answers l code) self.old }
     {
-        let lanes = &mut self.types[type_of(stream)];
-        lanes.stopped(index_of(stream), code, owner_answers);
+        let types = &mut self.types;
+        halves::edit(types, stream, (), Moves::All, |half| {
+            if owner_answers {
+                half.told_stop(code);
+            } else {
+                half.stopped(code);
+            }
+        });
     }
 
     pub(crate) fn stop_code(&self, stream: StreamId) -> Option<u64>
@@ -312,8 +331,7 @@ impl Outbox {
         requires { is_some (lookup self.old.sends stream) ≡ true }
         ensures { self.new ≡ on_lane stream (λ l. buffer_lane l size) self.old }
     {
-        let lanes = &mut self.types[type_of(stream)];
-        lanes.set_buffer(index_of(stream), size);
+        halves::set(&mut self.types, stream, Setting::Buffer(size));
     }
 
     pub(crate) fn allow(&mut self, stream: StreamId, limit: u64)
@@ -321,7 +339,6 @@ impl Outbox {
         requires limit { limit ≤ MAX_VARINT }
         ensures { self.new ≡ on_lane stream (λ l. allow_lane l limit) self.old }
     {
-        let lanes = &mut self.types[type_of(stream)];
-        lanes.allow(index_of(stream), limit);
+        halves::set(&mut self.types, stream, Setting::Limit(limit));
     }
 }

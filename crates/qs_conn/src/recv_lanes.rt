@@ -1,4 +1,4 @@
-ghost use Rattle.std.specs.Prelude.{◌≡◌, ◌+◌, ◌-◌, ◌≤◌, ◌<◌, ◌^◌, ◌++◌, ◌∷◌, [], length, map, take, slice_get, slice_index_or, false, None, Some, IfSome, IfNone, OnOk, OnErr};
+ghost use Rattle.std.specs.Prelude.{◌≡◌, ◌+◌, ◌-◌, ◌≤◌, ◌<◌, ◌^◌, ◌++◌, ◌∷◌, [], ℕ, length, map, take, slice_get, slice_index_or, false, None, Some, IfSome, IfNone, OnOk, OnErr};
 ghost use Rattle.qs_ranges.specs.Numbers.{MAX_VARINT};
 ghost use Rattle.qs_recv.specs.Lane.{MAX_WINDOW, RecvLane, new_lane, raise};
 ghost use Rattle.qs_recv.specs.Lawful.{IsLawful};
@@ -6,16 +6,17 @@ ghost use Rattle.qs_machine.specs.Tables.{widened};
 ghost use Rattle.qs_machine.specs.Sums.{changed, tally_of, tally_on, IsPaid, EachLawful};
 ghost use Rattle.qs_conn.specs.Rooms.{IsRoom, IsSumOf};
 ghost use Rattle.qs_conn.specs.Touches.{AreSettled};
-ghost use Rattle.qs_conn.specs.RecvEdits.{OnceInto, OnceTakesInto, LeavesCalm, IsEdited, wrapped, with_parts};
-ghost use Rattle.qs_conn.specs.Untold.{HasMore, IsRaisedMarked, AreRaisedMarked};
-ghost use Rattle.qs_conn.specs.RecvTasks.{has};
-ghost use Rattle.qs_conn.specs.Carried.{StayExactOf};
+ghost use Rattle.qs_conn.specs.RecvEdits.{OnceInto, OnceTakesInto, LeavesCalm, wrapped, with_parts};
+ghost use Rattle.qs_conn.specs.Edits.{IsEdited};
+ghost use Rattle.qs_conn.specs.RecvTasks.{has_one};
+ghost use Rattle.qs_conn.specs.Due.{StayMarkedOf};
+ghost use Rattle.qs_conn.specs.Marks.{is_marked};
 
 use crate::holds::{Holds, sum_held};
 use crate::marks::Marks;
 use crate::recv_marks::{RecvMarks, RecvTask};
+use crate::stream_marks::StreamMarks;
 use crate::touches::Touches;
-use crate::untold::Untold;
 use qs_machine::Tally;
 use qs_ranges::NoMemory;
 use qs_recv::{RecvHalf, RingAssembly, Share};
@@ -108,23 +109,30 @@ impl RecvLanes {
         ensures ok { OnOk result (self.new ≡ widened self.old count (λ i. new_lane window share)) }
         ensures err { OnErr result (self.new ≡ self.old) }
     {
-        let before = self.halves.len();
-        let missing = count.saturating_sub(before);
-        for _opened in 0..missing {
-            if let Err(_refused) = open_one(&mut self.halves, self.alloc, window, share) {
-                self.halves.truncate(before);
-                return Err(NoMemory);
+        let before = self.len();
+        for _index in before..count {
+            if let Err(refused) = self.open_next(window, share) {
+                self.close_to(before);
+                return Err(refused);
             }
         }
-        if let Err(_refused) = self.touched.open_to(count) {
-            self.halves.truncate(before);
-            return Err(NoMemory);
-        }
-        if let Err(_refused) = self.news.open_to(count) {
-            self.halves.truncate(before);
-            self.touched.close_to(before);
-            return Err(NoMemory);
-        }
+        Ok(())
+    }
+
+    // Marks come first: room for more of them than there are halves changes nothing. A half begins with none.
+    #[tactic(auto, using(crate::proofs::LaneEdits::wider, crate::proofs::Marked::wider_same))]
+    fn open_next(&mut self, window: u64, share: Share) -> Result<(), NoMemory>
+        requires some { 1 ≤ window }
+        requires small { window ≤ MAX_WINDOW }
+        requires few { length self.old < 2 ^ 60 }
+        ensures ok { OnOk result (self.new ≡ self.old ++ (new_lane window share ∷ [])) }
+        ensures err { OnErr result (self.new ≡ self.old) }
+    {
+        let index = self.halves.len();
+        self.touched.make_room(index)?;
+        self.news.make_room(index)?;
+        let fresh: Half = RecvHalf::new(self.alloc, window, share)?;
+        self.halves.push(fresh)?;
         Ok(())
     }
 
@@ -133,8 +141,7 @@ impl RecvLanes {
         ensures { self.new ≡ take count self.old }
     {
         self.halves.truncate(count);
-        self.touched.close_to(count);
-        self.news.close_to(count);
+        self.news.clear_from(count);
     }
 
     /// Changes an open lane: the one way in. The sums, the marks and what is to be looked at again follow. Memory that the change fills is
@@ -149,7 +156,7 @@ impl RecvLanes {
         requires there { index < length self.old }
         requires callable { OnceTakesInto F.FnOnce f (slice_index_or self.old index (new_lane 0 Share.Half)) into.old }
         requires calm { LeavesCalm F.FnOnce f (slice_index_or self.old index (new_lane 0 Share.Half)) into.old }
-        ensures { IsEdited (OnceInto F.FnOnce f into.old into.new) self.old index result self.new }
+        ensures { IsEdited (OnceInto F.FnOnce f into.old into.new) (slice_index_or self.old index (new_lane 0 Share.Half)) self.old index result self.new }
     {
         let half = &mut self.halves[index];
         let was = measure(half);
@@ -163,34 +170,21 @@ impl RecvLanes {
 
     /// Only lanes that were touched are looked at. A stream whose limit rises is marked: the new one is in no packet yet.
     #[inline]
-    pub(crate) fn raise_all(
-        &mut self,
-        stream_type: usize,
-        untold: &mut Untold,
-        carried: &mut Untold,
-    )
+    pub(crate) fn raise_all(&mut self, stream_type: usize, limits: &mut StreamMarks)
         requires { stream_type < 4 }
         ensures after { self.new ≡ map raise self.old }
-        ensures marks { HasMore untold.old untold.new }
-        ensures marked { AreRaisedMarked stream_type self.old untold.new }
-        ensures exact { StayExactOf stream_type self.old self.new carried.old carried.new }
+        ensures marked { StayMarkedOf stream_type self.old self.new limits.old limits.new }
     {
         if self.touched.is_none() {
             return;
         }
-        raise_touched(
-            &mut self.halves,
-            &mut self.touched,
-            stream_type,
-            untold,
-            carried,
-        );
+        raise_touched(&mut self.halves, &mut self.touched, stream_type, limits);
     }
 
     /// The marks of the lanes that have such an answer for their owner.
     #[inline(always)]
     pub(crate) fn marks(&self, task: RecvTask) -> &Marks
-        ensures value { result.now ≡ map (has task) self.now }
+        ensures value { (i : ℕ) → is_marked result.now i ≡ has_one task (slice_get self.now i) }
         ensures few { length result.now ≤ 2 ^ 60 }
     {
         self.news.marks(task)
@@ -212,22 +206,6 @@ impl Holds for RecvLanes {
     fn held(&self) -> u64 {
         sum_held(&self.halves)
     }
-}
-
-fn open_one(
-    halves: &mut Vec<Half>,
-    alloc: Global,
-    window: u64,
-    share: Share,
-) -> Result<(), NoMemory>
-    requires some { 1 ≤ window }
-    requires small { window ≤ MAX_WINDOW }
-    ensures ok { OnOk result (halves.new.items ≡ halves.old.items ++ (new_lane window share ∷ [])) }
-    ensures err { OnErr result (halves.new.items ≡ halves.old.items) }
-{
-    let fresh: Half = RecvHalf::new(alloc, window, share)?;
-    halves.push(fresh)?;
-    Ok(())
 }
 
 #[inline(always)]
@@ -267,8 +245,7 @@ fn raise_touched(
     halves: &mut Vec<Half>,
     touched: &mut Touches,
     stream_type: usize,
-    untold: &mut Untold,
-    carried: &mut Untold,
+    limits: &mut StreamMarks,
 )
     requires stream_type { stream_type < 4 }
     requires few { length halves.old.items ≤ 2 ^ 60 }
@@ -276,38 +253,27 @@ fn raise_touched(
     ensures after { halves.new.items ≡ map raise halves.old.items }
     ensures room { length touched.new.marks ≡ length touched.old.marks }
     ensures settled { AreSettled touched.new halves.new.items }
-    ensures marks { HasMore untold.old untold.new }
-    ensures marked { AreRaisedMarked stream_type halves.old.items untold.new }
-    ensures exact { StayExactOf stream_type halves.old.items halves.new.items carried.old carried.new }
+    ensures marked { StayMarkedOf stream_type halves.old.items halves.new.items limits.old limits.new }
 {
     while let Some(index) = touched.pop() {
         if index < halves.len() {
-            raise_at(halves, index, stream_type, untold, carried);
+            raise_at(halves, index, stream_type, limits);
         }
     }
 }
 
-#[tactic(auto, using(crate::proofs::Untolds::has_same, crate::proofs::Untolds::has_marked, crate::proofs::LaneEdits::raised_none, crate::proofs::LaneEdits::raised_some, crate::proofs::LaneEdits::changed_at))]
-fn raise_at(
-    halves: &mut Vec<Half>,
-    index: usize,
-    stream_type: usize,
-    untold: &mut Untold,
-    carried: &mut Untold,
-)
+#[tactic(auto, using(crate::proofs::LaneEdits::changed_at))]
+fn raise_at(halves: &mut Vec<Half>, index: usize, stream_type: usize, limits: &mut StreamMarks)
     requires there { index < length halves.old.items }
     requires stream_type { stream_type < 4 }
     requires few { length halves.old.items ≤ 2 ^ 60 }
     ensures after { halves.new.items ≡ changed halves.old.items index raise (slice_get halves.old.items index) }
     ensures len { length halves.new.items ≡ length halves.old.items }
-    ensures marks { HasMore untold.old untold.new }
-    ensures marked { IsRaisedMarked stream_type halves.old.items untold.new index }
-    ensures exact { StayExactOf stream_type halves.old.items halves.new.items carried.old carried.new }
+    ensures marked { StayMarkedOf stream_type halves.old.items halves.new.items limits.old limits.new }
 {
     let half = &mut halves[index];
     if let Some(_limit) = half.raise() {
         let stream = StreamId::new((index * 4 + stream_type) as u64).unwrap();
-        untold.set(stream, true);
-        carried.set(stream, false);
+        limits.set(stream, true);
     }
 }

@@ -1,4 +1,5 @@
-ghost use Rattle.std.specs.Prelude.{◌≡◌, ◌++◌, ◌-◌, ◌<◌, [], false, length, take, slice_set, replicate, OnOk, OnErr};
+ghost use Rattle.std.specs.Prelude.{◌≡◌, ◌+◌, ◌<◌, ◌^◌, [], slice_set, OnOk};
+ghost use Rattle.qs_conn.specs.Marks.{HasRoom, IsClearedFrom, IsWider};
 ghost use Rattle.qs_conn.specs.RecvTasks.{has, marks_of};
 
 use crate::marks::Marks;
@@ -28,28 +29,25 @@ impl RecvMarks {
         }
     }
 
-    pub(crate) fn open_to(&mut self, count: usize) -> Result<(), NoMemory>
-        ensures ok { OnOk result ((t : RecvTask) → marks_of self.new t ≡ marks_of self.old t ++ replicate (count - length (marks_of self.old t)) false) }
-        ensures err { OnErr result ((t : RecvTask) → marks_of self.new t ≡ marks_of self.old t) }
+    #[inline(always)]
+    #[tactic(auto, using(crate::proofs::Marked::wider_same))]
+    pub(crate) fn make_room(&mut self, index: usize) -> Result<(), NoMemory>
+        requires { index < 2 ^ 60 }
+        ensures wider { (t : RecvTask) → IsWider (marks_of self.old t) (marks_of self.new t) }
+        ensures ok { OnOk result ((t : RecvTask) → HasRoom index (marks_of self.old t) → HasRoom (index + 1) (marks_of self.new t)) }
     {
-        let readable = self.readable.len();
-        self.readable.open_to(count)?;
-        if let Err(refused) = self.ended.open_to(count) {
-            self.readable.close_to(readable);
-            return Err(refused);
-        }
-        Ok(())
+        self.readable.make_room(index)?;
+        self.ended.make_room(index)
     }
 
-    pub(crate) fn close_to(&mut self, count: usize)
-        ensures { (t : RecvTask) → marks_of self.new t ≡ take count (marks_of self.old t) }
+    pub(crate) fn clear_from(&mut self, count: usize)
+        ensures { (t : RecvTask) → IsClearedFrom count (marks_of self.old t) (marks_of self.new t) }
     {
-        self.readable.close_to(count);
-        self.ended.close_to(count);
+        self.readable.clear_from(count);
+        self.ended.clear_from(count);
     }
 
     pub(crate) fn look(&mut self, index: usize, half: &RecvHalf<RingAssembly>)
-        requires { (t : RecvTask) → index < length (marks_of self.old t) }
         ensures { (t : RecvTask) → marks_of self.new t ≡ slice_set (marks_of self.old t) index (has t half.now) }
     {
         let standing = half.standing();

@@ -15,9 +15,9 @@ ghost use Rattle.qs_conn.specs.Layers.{limit_to_tell, stop_to_tell};
 ghost use Rattle.qs_machine.specs.News.{IsLeast, IsHeld};
 ghost use Rattle.qs_conn.specs.Marks.{is_marked, IsHeldOf, IsUntold, IsUntoldOf};
 ghost use Rattle.qs_conn.specs.declared.recv_marks.RecvTask.TheVariants as tasks;
-ghost use Rattle.qs_conn.specs.Untold.{HasMore};
-ghost use Rattle.qs_conn.specs.Carried.{StayExact};
-ghost use Rattle.qs_conn.specs.RecvEdits.{OnceInto, OnceTakesInto, LeavesCalm, IsEditedIn, IsTallyOf, added};
+ghost use Rattle.qs_conn.specs.Due.{StayMarked};
+ghost use Rattle.qs_conn.specs.RecvEdits.{OnceInto, OnceTakesInto, LeavesCalm, IsTallyOf, added};
+ghost use Rattle.qs_conn.specs.Edits.{IsEditedIn};
 ghost use Rattle.qs_conn.specs.RecvTasks.{HasOne, HasNone, has_one};
 
 use crate::holds::sum_held;
@@ -25,8 +25,8 @@ use crate::marks::Marks;
 use crate::places::{Place, index_from, index_of, least_stream, type_of};
 use crate::recv_lanes::{Half, RecvLanes};
 use crate::recv_marks::RecvTask;
+use crate::stream_marks::StreamMarks;
 use crate::told_streams::ToldStreams;
-use crate::untold::Untold;
 use qs_calls::RecvReport;
 use qs_machine::Tally;
 use qs_ranges::NoMemory;
@@ -149,6 +149,7 @@ impl RecvTables {
 
     /// Changes the receiving half of an open stream: the one way in. Memory that the change fills is handed through.
     #[inline]
+    #[tactic(auto, using(qs_machine::proofs::TableEdits::open_there, qs_machine::proofs::TableEdits::lane_is))]
     fn edit<R, F: FnOnce(&mut Half, &mut [u8]) -> R>(
         &mut self,
         stream: Place,
@@ -158,7 +159,7 @@ impl RecvTables {
         requires open { is_some (lookup self.old stream) ≡ true }
         requires callable { OnceTakesInto F.FnOnce f (or_new (lookup self.old stream) 0 Share.Half) into.old }
         requires calm { LeavesCalm F.FnOnce f (or_new (lookup self.old stream) 0 Share.Half) into.old }
-        ensures { IsEditedIn (OnceInto F.FnOnce f into.old into.new) self.old stream result self.new }
+        ensures { IsEditedIn (OnceInto F.FnOnce f into.old into.new) (or_new (lookup self.old stream) 0 Share.Half) self.old stream result self.new }
     {
         let lanes = &mut self.types[stream.stream_type];
         lanes.edit(stream.index, into, f)
@@ -198,7 +199,6 @@ impl RecvTables {
         })
     }
 
-    #[tactic(auto, using(crate::proofs::Marked::open_within))]
     pub(crate) fn may_tell(&self, stream: StreamId) -> bool
         requires { is_some (lookup self.now stream) ≡ true }
         ensures { result ≡ false → (t : RecvTask) → HasNone t (or_new (lookup self.now stream) 0 Share.Half) }
@@ -403,7 +403,6 @@ impl RecvTables {
     pub(crate) fn marks(&self, task: RecvTask, stream_type: usize) -> &Marks
         requires { stream_type < 4 }
         ensures value { (n : ℕ) → type_of n ≡ stream_type → is_marked result.now (n / 4) ≡ has_one task (lookup self.now n) }
-        ensures len { length result.now ≡ length (table self.now stream_type) }
         ensures few { length result.now ≤ 2 ^ 60 }
     {
         let lanes = &self.types[stream_type];
@@ -429,16 +428,14 @@ impl RecvTables {
         sum_held(&self.types)
     }
 
-    pub(crate) fn raise_all(&mut self, untold: &mut Untold, carried: &mut Untold)
+    pub(crate) fn raise_all(&mut self, limits: &mut StreamMarks)
         ensures after { self.new ≡ each raise self.old }
-        ensures marks { HasMore untold.old untold.new }
-        ensures marked { (n : ℕ) (l : RecvLane) → lookup self.old n ≡ Some l → lookup untold.new n ≡ Some false → raise l ≡ l }
-        ensures exact { StayExact self.old self.new carried.old carried.new }
+        ensures marked { StayMarked self.old self.new limits.old limits.new }
     {
-        self.types[0].raise_all(0, untold, carried);
-        self.types[1].raise_all(1, untold, carried);
-        self.types[2].raise_all(2, untold, carried);
-        self.types[3].raise_all(3, untold, carried);
+        self.types[0].raise_all(0, limits);
+        self.types[1].raise_all(1, limits);
+        self.types[2].raise_all(2, limits);
+        self.types[3].raise_all(3, limits);
     }
 }
 

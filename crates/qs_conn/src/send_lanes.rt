@@ -1,20 +1,18 @@
-ghost use Rattle.std.specs.Prelude.{◌≡◌, ◌+◌, ◌-◌, ◌*◌, ◌≤◌, ◌<◌, ◌^◌, [], true, length, take, slice_get, slice_index_or, slice_set, unwrap_or, ℕ, false, None, Some, OnOk, OnErr, IfOk, IfErr, IfSome};
+ghost use Rattle.std.specs.Prelude.{◌≡◌, ◌+◌, ◌++◌, ◌∷◌, ◌-◌, ◌*◌, ◌≤◌, ◌<◌, ◌^◌, [], true, length, take, slice_get, slice_index_or, slice_set, unwrap_or, ℕ, false, None, Some, OnOk, OnErr, IfOk, IfErr, IfSome};
 ghost use Rattle.std.specs.List.{sum_by};
 ghost use Rattle.qs_ranges.specs.Numbers.{MAX_VARINT};
-ghost use Rattle.qs_send.specs.Lane.{Sending, new_sending, accepted, refusal, reset_refusal, answer_of, state, after_write, after_finish, after_reset, after_stop, after_reset_acked, after_blocked, after_allow, after_buffer, after_sent, after_acked, after_lost};
-ghost use Rattle.qs_send.specs.Chunks.{IsDueChunk, WasSent};
+ghost use Rattle.qs_send.specs.Lane.{Sending, new_sending};
 ghost use Rattle.qs_send.specs.Sound.{IsLawful};
 ghost use Rattle.qs_machine.specs.Tables.{widened};
-ghost use Rattle.qs_machine.specs.Memory.{ChunkMayRunOut};
 ghost use Rattle.qs_machine.specs.Sums.{changed, no_sending};
 ghost use Rattle.qs_machine.specs.News.{IsLeast};
 ghost use Rattle.qs_machine.specs.Asking.{kept_on};
 ghost use Rattle.qs_conn.specs.Rooms.{IsBuffer, IsSumOf};
 ghost use Rattle.std.specs.Fn.{FnOnceTakesAtMut, FnOnceReturnsAtMut};
 ghost use Rattle.qs_send.specs.Halves.{IsOver, half_at};
-ghost use Rattle.qs_conn.specs.Edits.{IsEdited};
+ghost use Rattle.qs_conn.specs.Edits.{IsEdited, LeavesStill, MaySet, OrStays, after_set};
 ghost use Rattle.qs_conn.specs.Promised.{promised_on};
-ghost use Rattle.qs_conn.specs.Marks.{AreMarked, IsAt};
+ghost use Rattle.qs_conn.specs.Marks.{is_marked, IsAt};
 ghost use Rattle.qs_conn.specs.declared.send_marks.Task.TheVariants as tasks;
 ghost use Rattle.qs_conn.specs.Tasks.{AreMarksOf, HasTask, IsQuiet, IsSoughtAt, Stays, counted, has, marks_of};
 
@@ -23,17 +21,18 @@ use crate::marks::Marks;
 use crate::send_marks::{Moves, Search, SendMarks, Task};
 use crate::told_marks::ToldMarks;
 use qs_ranges::NoMemory;
-use qs_send::{Chunk, SendFault, SendHalf, SendHalves, SendState, SendView};
+use qs_send::{SendHalf, SendHalves, SendView};
 use qs_wire::StreamId;
 use std::alloc::Global;
 use std::marker::Model;
 
+/// What is set of a half, whether it is over or not.
 #[derive(Clone, Copy, Drop)]
-pub(crate) struct Sent {
-    pub(crate) moved: u64,
-    pub(crate) is_done: bool,
-    /// Then it needn't be looked at for STREAM_DATA_BLOCKED.
-    pub(crate) is_free: bool,
+pub(crate) enum Setting {
+    Limit(u64),
+    Buffer(u32),
+    /// A packet tells that the stream's limit holds bytes back.
+    Blocked,
 }
 
 // What a half counts for in the two sums.
@@ -139,21 +138,32 @@ impl SendLanes {
         ensures ok { OnOk result (self.new ≡ widened self.old count (λ i. new_sending (i * 4 + stream_type) limit buffer)) }
         ensures err { OnErr result (self.new ≡ self.old) }
     {
-        let before = self.halves.len();
-        let missing = count.saturating_sub(before);
-        for opened in 0..missing {
-            let number = (before + opened) as u64 * 4 + stream_type;
-            let id = StreamId::new(number).unwrap();
-            let fresh = SendHalf::new(self.alloc, id, limit, buffer);
-            if let Err(_refused) = self.halves.push(fresh) {
-                self.halves.truncate(before);
-                return Err(NoMemory);
+        let before = self.len();
+        for _index in before..count {
+            if let Err(refused) = self.open_next(stream_type, limit, buffer) {
+                self.close_to(before);
+                return Err(refused);
             }
         }
-        if let Err(_refused) = self.marks.open_to(count, limit, buffer) {
-            self.halves.truncate(before);
-            return Err(NoMemory);
-        }
+        Ok(())
+    }
+
+    // Marks come first: room for more of them than there are halves changes nothing.
+    #[inline(always)]
+    #[tactic(auto, using(crate::proofs::Tasks::all_wider, crate::proofs::Tasks::none_next))]
+    fn open_next(&mut self, stream_type: u64, limit: u64, buffer: u32) -> Result<(), NoMemory>
+        requires stream_type { stream_type < 4 }
+        requires limit { limit ≤ MAX_VARINT }
+        requires few { length self.old < 2 ^ 60 }
+        ensures ok { OnOk result (self.new ≡ self.old ++ (new_sending (length self.old * 4 + stream_type) limit buffer ∷ [])) }
+        ensures err { OnErr result (self.new ≡ self.old) }
+    {
+        let index = self.halves.len();
+        self.marks.make_room(index)?;
+        let id = StreamId::new(index as u64 * 4 + stream_type).unwrap();
+        self.halves
+            .push(SendHalf::new(self.alloc, id, limit, buffer))?;
+        self.marks.begin(index, limit, buffer);
         Ok(())
     }
 
@@ -163,12 +173,12 @@ impl SendLanes {
         ensures { self.new ≡ take count self.old }
     {
         self.halves.truncate(count);
-        self.marks.close_to(count);
+        self.marks.clear_from(count);
     }
 
-    // Changes a half: the one way in. The sums and the marks follow. One that is over stays as it is, and what is given is the answer.
+    /// Changes a half: the one way in. The sums and the marks follow. One that is over stays as it is, and what is given is the answer.
     #[inline(always)]
-    fn edit<R: Drop, F: FnOnce(&mut SendHalf) -> R>(
+    pub(crate) fn edit<R: Drop, F: FnOnce(&mut SendHalf) -> R>(
         &mut self,
         index: usize,
         over: R,
@@ -177,8 +187,8 @@ impl SendLanes {
     ) -> R
         requires there { index < length self.old }
         requires callable { FnOnceTakesAtMut F.FnOnce change (half_at self.old index) }
-        requires stays { IsLawful (half_at self.old index) → (r : _) (s : _) → FnOnceReturnsAtMut F.FnOnce change (half_at self.old index) r s → Stays moves (half_at self.old index) s }
-        ensures { IsEdited (FnOnceReturnsAtMut F.FnOnce change) over self.old index result self.new }
+        requires stays { LeavesStill F.FnOnce change moves (half_at self.old index) }
+        ensures { IsEdited (OrStays (FnOnceReturnsAtMut F.FnOnce change) over) (half_at self.old index) self.old index result self.new }
     {
         let Some(half) = self.halves.full_mut(index) else {
             return over;
@@ -193,151 +203,31 @@ impl SendLanes {
         answer
     }
 
-    #[tactic(auto, using(crate::proofs::LaneEdits::changed_is, crate::proofs::LaneEdits::set_same, crate::proofs::LaneEdits::over_refused))]
-    pub(crate) fn write(&mut self, index: usize, bytes: &[u8]) -> Result<usize, SendFault>
-        requires { index < length self.old }
-        ensures accepted { let half = slice_index_or self.old index no_sending in
-            IfOk result (λ n. (refusal half.lane ≡ None) × (n ≡ accepted half.lane (length bytes.now)) × (self.new ≡ changed self.old index (λ s. after_write s (take n bytes.now)) (slice_get self.old index))) }
-        ensures refused { let half = slice_index_or self.old index no_sending in
-            IfErr result (λ fault. (self.new ≡ self.old) × (fault ≡ unwrap_or (refusal half.lane) SendFault.NoMemory)) }
-        ensures grows { result ≡ Err SendFault.NoMemory → 0 < accepted (slice_index_or self.old index no_sending).lane (length bytes.now) }
-    {
-        // A write to a full buffer costs no more than its marks.
-        if !self.marks.has(Task::Writable, index) {
-            return write_none(&self.halves.at(index));
-        }
-        self.edit(
-            index,
-            Err(SendFault::Finished),
-            Moves::Room,
-            |half| half.write(bytes),
-        )
-    }
-
-    #[tactic(auto, using(crate::proofs::LaneEdits::changed_is, crate::proofs::LaneEdits::over_refused, crate::proofs::LaneEdits::over_finish))]
-    pub(crate) fn finish(&mut self, index: usize) -> Result<(), SendFault>
-        requires { index < length self.old }
-        ensures answer { result ≡ answer_of (refusal (slice_index_or self.old index no_sending).lane) }
-        ensures after { self.new ≡ changed self.old index after_finish (slice_get self.old index) }
-    {
-        self.edit(
-            index,
-            Err(SendFault::Finished),
-            Moves::End,
-            |half| half.finish(),
-        )
-    }
-
-    #[tactic(auto, using(crate::proofs::LaneEdits::changed_is, crate::proofs::LaneEdits::over_reset_refused, crate::proofs::LaneEdits::over_reset))]
-    pub(crate) fn reset(&mut self, index: usize, code: u64) -> Result<(), SendFault>
+    /// Sets a value of a half, also of one that is over.
+    #[tactic(auto, using(crate::proofs::LaneEdits::changed_is, crate::proofs::LaneEdits::put_over, crate::proofs::LaneEdits::set_over))]
+    pub(crate) fn set(&mut self, index: usize, setting: Setting)
         requires there { index < length self.old }
-        requires fits { code ≤ MAX_VARINT }
-        ensures answer { result ≡ answer_of (reset_refusal (slice_index_or self.old index no_sending).lane) }
-        ensures after { self.new ≡ changed self.old index (λ s. after_reset s code) (slice_get self.old index) }
+        requires small { MaySet setting }
+        ensures { self.new ≡ changed self.old index (after_set setting) (slice_get self.old index) }
     {
-        self.edit(
-            index,
-            Err(SendFault::Finished),
-            Moves::All,
-            |half| half.reset(code),
-        )
-    }
-
-    #[tactic(auto, using(crate::proofs::LaneEdits::changed_is, crate::proofs::LaneEdits::over_stop))]
-    pub(crate) fn stopped(&mut self, index: usize, code: u64, owner_answers: bool)
-        requires there { index < length self.old }
-        requires fits { code ≤ MAX_VARINT }
-        ensures { self.new ≡ changed self.old index (λ s. after_stop owner_answers s code) (slice_get self.old index) }
-    {
-        self.edit(
-            index,
-            (),
-            Moves::All,
-            |half| take_stop(half, code, owner_answers),
-        )
-    }
-
-    pub(crate) fn allow(&mut self, index: usize, limit: u64)
-        requires there { index < length self.old }
-        requires limit { limit ≤ MAX_VARINT }
-        ensures { self.new ≡ changed self.old index (λ s. after_allow s limit) (slice_get self.old index) }
-    {
-        self.halves.allow(index, limit);
+        set_in(&mut self.halves, index, setting);
         look_at(&self.halves, &mut self.marks, index);
     }
 
-    pub(crate) fn set_buffer(&mut self, index: usize, size: u32)
+    /// One that is over takes few bytes from here on. No clause sees it.
+    pub(crate) fn settle(&mut self, index: usize)
         requires { index < length self.old }
-        ensures { self.new ≡ changed self.old index (λ s. after_buffer s size) (slice_get self.old index) }
+        ensures { self.new ≡ self.old }
     {
-        self.halves.set_buffer(index, size);
-        look_at(&self.halves, &mut self.marks, index);
+        self.halves.settle(index);
     }
 
-    pub(crate) fn note_blocked(&mut self, index: usize)
-        requires { index < length self.old }
-        ensures { self.new ≡ changed self.old index after_blocked (slice_get self.old index) }
+    #[inline(always)]
+    pub(crate) fn has(&self, index: usize, task: Task) -> bool
+        requires { index < length self.now }
+        ensures { result ≡ has task (half_at self.now index) }
     {
-        self.halves.note_blocked(index);
-        look_at(&self.halves, &mut self.marks, index);
-    }
-
-    #[tactic(auto, using(crate::proofs::LaneEdits::changed_is, crate::proofs::LaneEdits::over_not_reset))]
-    pub(crate) fn reset_acked(&mut self, index: usize)
-        requires there { index < length self.old }
-        requires sent { state (slice_index_or self.old index no_sending).lane ≡ SendState.ResetSent }
-        ensures { self.new ≡ changed self.old index after_reset_acked (slice_get self.old index) }
-    {
-        self.edit(index, (), Moves::All, |half| half.reset_acked())
-    }
-
-    #[tactic(auto, using(crate::proofs::LaneEdits::changed_is, crate::proofs::LaneEdits::over_sent))]
-    pub(crate) fn sent(&mut self, index: usize, chunk: Chunk) -> Sent
-        requires there { index < length self.old }
-        requires due { IsDueChunk (slice_index_or self.old index no_sending) chunk }
-        ensures after { self.new ≡ changed self.old index (λ s. after_sent s chunk) (slice_get self.old index) }
-        ensures moved { let half = slice_index_or self.old index no_sending in half.lane.sent_end + result.moved ≡ (after_sent half chunk).lane.sent_end }
-        ensures done { result.is_done ≡ true → IsQuiet tasks.Bytes (after_sent (slice_index_or self.old index no_sending) chunk) }
-        ensures free { let half = slice_index_or self.old index no_sending in result.is_free ≡ true → half.lane.written ≤ half.lane.limit }
-    {
-        let (moved, is_free) = self.edit(index, (0, false), Moves::Sent, |half| {
-            let before = half.sent_end();
-            half.sent(chunk);
-            (half.sent_end() - before, half.written() <= half.limit())
-        });
-        Sent {
-            moved,
-            is_done: !self.marks.has(Task::Bytes, index),
-            is_free,
-        }
-    }
-
-    #[tactic(auto, using(crate::proofs::LaneEdits::changed_is, crate::proofs::LaneEdits::set_same, crate::proofs::LaneEdits::over_acked))]
-    pub(crate) fn acked(&mut self, index: usize, chunk: Chunk) -> Result<(), NoMemory>
-        requires there { index < length self.old }
-        requires sent { WasSent (slice_index_or self.old index no_sending).lane chunk }
-        ensures ok { OnOk result (self.new ≡ changed self.old index (λ s. after_acked s chunk) (slice_get self.old index)) }
-        ensures err { OnErr result (self.new ≡ self.old) }
-        ensures asks { OnErr result (ChunkMayRunOut (slice_index_or self.old index no_sending).lane chunk) }
-    {
-        let (answer, ends) = self.edit(index, (Ok(()), false), Moves::Room, |half| {
-            let answer = half.acked(chunk);
-            (answer, half.end_acked())
-        });
-        if ends {
-            self.halves.settle(index);
-        }
-        answer
-    }
-
-    #[tactic(auto, using(crate::proofs::LaneEdits::changed_is, crate::proofs::LaneEdits::set_same, crate::proofs::LaneEdits::over_lost))]
-    pub(crate) fn lost(&mut self, index: usize, chunk: Chunk) -> Result<(), NoMemory>
-        requires there { index < length self.old }
-        requires sent { WasSent (slice_index_or self.old index no_sending).lane chunk }
-        ensures ok { OnOk result (self.new ≡ changed self.old index (λ s. after_lost s chunk) (slice_get self.old index)) }
-        ensures err { OnErr result (self.new ≡ self.old) }
-    {
-        self.edit(index, Ok(()), Moves::All, |half| half.lost(chunk))
+        self.marks.has(task, index)
     }
 
     #[inline(always)]
@@ -349,10 +239,10 @@ impl SendLanes {
 
     /// The marks of the halves that came to their end.
     pub(crate) fn ended_marks(&self) -> &Marks
-        ensures none { AreMarked (IsQuiet tasks.Ended) self.now result.now }
+        ensures none { (i : ℕ) (s : Sending) → slice_get self.now i ≡ Some s → is_marked result.now i ≡ false → IsQuiet tasks.Ended s }
         ensures few { length result.now ≤ 2 ^ 60 }
     {
-        self.marks.ended()
+        self.marks.of(Task::Ended)
     }
 
     /// The least index from one on whose half has a task.
@@ -428,7 +318,6 @@ fn kept(half: &SendHalf) -> u128
 // Looks again at a half that was put, where it isn't over.
 fn look_at(halves: &SendHalves, marks: &mut SendMarks, index: usize)
     requires there { index < length halves.now }
-    requires marks { (t : Task) → index < length (marks_of marks.old t) }
     requires over { IsOver (half_at halves.now index) → AreMarksOf marks.old index (half_at halves.now index) }
     ensures { (t : Task) → marks_of marks.new t ≡ slice_set (marks_of marks.old t) index (has t (half_at halves.now index)) }
 {
@@ -437,23 +326,14 @@ fn look_at(halves: &SendHalves, marks: &mut SendMarks, index: usize)
     }
 }
 
-fn take_stop(half: &mut SendHalf, code: u64, owner_answers: bool)
-    requires { code ≤ MAX_VARINT }
-    ensures { half.new ≡ after_stop owner_answers half.old code }
+fn set_in(halves: &mut SendHalves, index: usize, setting: Setting)
+    requires there { index < length halves.old }
+    requires small { MaySet setting }
+    ensures { halves.new ≡ slice_set halves.old index (after_set setting (half_at halves.old index)) }
 {
-    if owner_answers {
-        half.told_stop(code);
-    } else {
-        half.stopped(code);
-    }
-}
-
-fn write_none(half: &SendView<'_>) -> Result<usize, SendFault>
-    ensures accepted { IfOk result (λ n. (refusal half.now.lane ≡ None) × (n ≡ 0)) }
-    ensures refused { IfErr result (λ fault. refusal half.now.lane ≡ Some fault) }
-{
-    match half.refusal() {
-        Some(fault) => Err(fault),
-        None => Ok(0),
+    match setting {
+        Setting::Limit(limit) => halves.allow(index, limit),
+        Setting::Buffer(size) => halves.set_buffer(index, size),
+        Setting::Blocked => halves.note_blocked(index),
     }
 }

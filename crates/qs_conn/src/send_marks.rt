@@ -1,8 +1,7 @@
-ghost use Rattle.std.specs.Prelude.{◌≡◌, ◌++◌, ◌-◌, ◌<◌, [], false, length, take, slice_set, replicate, OnOk, OnErr};
+ghost use Rattle.std.specs.Prelude.{◌≡◌, ◌+◌, ◌<◌, ◌^◌, [], false, slice_set, OnOk};
 ghost use Rattle.qs_machine.specs.Credit.{send_ended};
-ghost use Rattle.qs_conn.specs.Marks.{is_marked, IsNextMark};
+ghost use Rattle.qs_conn.specs.Marks.{IsClear, is_marked, HasRoom, IsClearedFrom, IsNextMark, IsWider};
 ghost use Rattle.qs_conn.specs.Tasks.{AreMarkedBefore, begins, has, is_due_below, marks_of, may_end, sought_of};
-ghost use Rattle.qs_conn.specs.Untold.{IsClear};
 ghost use Rattle.qs_conn.specs.declared.send_marks.Task.TheVariants as tasks;
 
 use crate::marks::Marks;
@@ -69,64 +68,47 @@ impl SendMarks {
         }
     }
 
-    /// Makes room for all indexes below a count, for halves that begin with a limit and a buffer.
-    pub(crate) fn open_to(&mut self, count: usize, limit: u64, buffer: u32) -> Result<(), NoMemory>
-        ensures ok { OnOk result ((t : Task) → marks_of self.new t ≡ marks_of self.old t ++ replicate (count - length (marks_of self.old t)) (begins t limit buffer)) }
-        ensures err { OnErr result ((t : Task) → marks_of self.new t ≡ marks_of self.old t) }
+    #[inline(always)]
+    #[tactic(auto, using(crate::proofs::Marked::wider_same))]
+    pub(crate) fn make_room(&mut self, index: usize) -> Result<(), NoMemory>
+        requires { index < 2 ^ 60 }
+        ensures wider { (t : Task) → IsWider (marks_of self.old t) (marks_of self.new t) }
+        ensures ok { OnOk result ((t : Task) → HasRoom index (marks_of self.old t) → HasRoom (index + 1) (marks_of self.new t)) }
     {
-        let (bytes, again) = (self.bytes.len(), self.again.len());
-        let (writable, funded) = (self.writable.len(), self.funded.len());
-        let ended = self.ended.len();
-        self.bytes.open_to(count)?;
-        if let Err(refused) = self.again.open_to(count) {
-            self.bytes.close_to(bytes);
-            return Err(refused);
-        }
-        if let Err(refused) = open_as(&mut self.writable, count, buffer > 0) {
-            self.bytes.close_to(bytes);
-            self.again.close_to(again);
-            return Err(refused);
-        }
-        if let Err(refused) = open_as(&mut self.funded, count, buffer > 0 && limit > 0) {
-            self.bytes.close_to(bytes);
-            self.again.close_to(again);
-            self.writable.close_to(writable);
-            return Err(refused);
-        }
-        if let Err(refused) = self.ended.open_to(count) {
-            self.bytes.close_to(bytes);
-            self.again.close_to(again);
-            self.writable.close_to(writable);
-            self.funded.close_to(funded);
-            return Err(refused);
-        }
-        if let Err(refused) = self.stopped.open_to(count) {
-            self.bytes.close_to(bytes);
-            self.again.close_to(again);
-            self.writable.close_to(writable);
-            self.funded.close_to(funded);
-            self.ended.close_to(ended);
-            return Err(refused);
-        }
-        Ok(())
+        self.bytes.make_room(index)?;
+        self.again.make_room(index)?;
+        self.writable.make_room(index)?;
+        self.funded.make_room(index)?;
+        self.ended.make_room(index)?;
+        self.stopped.make_room(index)
     }
 
-    pub(crate) fn close_to(&mut self, count: usize)
-        ensures { (t : Task) → marks_of self.new t ≡ take count (marks_of self.old t) }
+    pub(crate) fn clear_from(&mut self, count: usize)
+        ensures { (t : Task) → IsClearedFrom count (marks_of self.old t) (marks_of self.new t) }
     {
-        self.bytes.close_to(count);
-        self.again.close_to(count);
-        self.writable.close_to(count);
-        self.funded.close_to(count);
-        self.ended.close_to(count);
-        self.stopped.close_to(count);
+        self.bytes.clear_from(count);
+        self.again.clear_from(count);
+        self.writable.clear_from(count);
+        self.funded.clear_from(count);
+        self.ended.clear_from(count);
+        self.stopped.clear_from(count);
+    }
+
+    /// Marks a half that begins with a limit and a buffer.
+    #[inline(always)]
+    #[tactic(auto, using(crate::proofs::Marked::mark_is))]
+    pub(crate) fn begin(&mut self, index: usize, limit: u64, buffer: u32)
+        requires { (t : Task) → is_marked (marks_of self.old t) index ≡ false }
+        ensures { (t : Task) → marks_of self.new t ≡ slice_set (marks_of self.old t) index (begins t limit buffer) }
+    {
+        self.writable.set(index, buffer > 0);
+        self.funded.set(index, buffer > 0 && limit > 0);
     }
 
     /// Looks again at a half that changed: at what the change may move.
     #[inline(always)]
     pub(crate) fn look(&mut self, index: usize, half: &SendHalf, moves: Moves)
-        requires there { (t : Task) → index < length (marks_of self.old t) }
-        requires stays { AreMarkedBefore moves self.old index half.now }
+        requires { AreMarkedBefore moves self.old index half.now }
         ensures { (t : Task) → marks_of self.new t ≡ slice_set (marks_of self.old t) index (has t half.now) }
     {
         self.bytes.set(index, may_send(half));
@@ -153,8 +135,6 @@ impl SendMarks {
     // Looks again at the room of a half.
     #[inline(always)]
     fn look_room(&mut self, index: usize, half: &SendHalf)
-        requires writable { index < length self.old.writable }
-        requires funded { index < length self.old.funded }
         ensures { self.new ≡ record self.old { writable = slice_set self.old.writable index (has tasks.Writable half.now); funded = slice_set self.old.funded index (has tasks.Funded half.now) } }
     {
         let is_writable = half.is_writable();
@@ -166,7 +146,6 @@ impl SendMarks {
     /// Whether a half has a task.
     #[inline(always)]
     pub(crate) fn has(&self, task: Task, index: usize) -> bool
-        requires { index < length (marks_of self.now task) }
         ensures { result ≡ is_marked (marks_of self.now task) index }
     {
         self.of(task).has(index)
@@ -177,12 +156,6 @@ impl SendMarks {
         ensures { result ≡ false → IsClear (marks_of self.now task) }
     {
         self.of(task).may_have()
-    }
-
-    pub(crate) fn ended(&self) -> &Marks
-        ensures { result.now ≡ self.now.ended }
-    {
-        &self.ended
     }
 
     #[inline(always)]
@@ -209,7 +182,7 @@ impl SendMarks {
     }
 
     #[inline(always)]
-    fn of(&self, task: Task) -> &Marks
+    pub(crate) fn of(&self, task: Task) -> &Marks
         ensures { result.now ≡ marks_of self.now task }
     {
         match task {
@@ -223,24 +196,11 @@ impl SendMarks {
     }
 }
 
-// Makes room for all indexes below a count: the new ones have a mark or have none.
-#[inline(always)]
-fn open_as(marks: &mut Marks, count: usize, is_marked: bool) -> Result<(), NoMemory>
-    ensures ok { OnOk result (marks.new ≡ marks.old ++ replicate (count - length marks.old) is_marked) }
-    ensures err { OnErr result (marks.new ≡ marks.old) }
-{
-    if is_marked {
-        return marks.open_marked_to(count);
-    }
-    marks.open_to(count)
-}
-
 // Looks whether a half has something to send again, where it had.
 #[inline(always)]
 #[tactic(auto, using(crate::proofs::Marked::mark_is))]
 fn look_again(again: &mut Marks, index: usize, half: &SendHalf)
-    requires there { index < length again.old }
-    requires still { is_marked again.old index ≡ false → has tasks.Again half.now ≡ false }
+    requires { is_marked again.old index ≡ false → has tasks.Again half.now ≡ false }
     ensures { again.new ≡ slice_set again.old index (has tasks.Again half.now) }
 {
     if !again.may_have() {
@@ -256,8 +216,7 @@ fn look_again(again: &mut Marks, index: usize, half: &SendHalf)
 #[inline(always)]
 #[tactic(auto, using(crate::proofs::Marked::mark_is))]
 fn look_may_end(again: &mut Marks, index: usize, half: &SendHalf)
-    requires there { index < length again.old }
-    requires still { may_end half.now ≡ false → is_marked again.old index ≡ has tasks.Again half.now }
+    requires { may_end half.now ≡ false → is_marked again.old index ≡ has tasks.Again half.now }
     ensures { again.new ≡ slice_set again.old index (has tasks.Again half.now) }
 {
     if !may_end(half) {
@@ -270,8 +229,7 @@ fn look_may_end(again: &mut Marks, index: usize, half: &SendHalf)
 #[inline(always)]
 #[tactic(auto, using(crate::proofs::Marked::mark_is))]
 fn look_end(ended: &mut Marks, index: usize, half: &SendHalf)
-    requires there { index < length ended.old }
-    requires still { half.now.lane.fin_acked ≡ false → is_marked ended.old index ≡ has tasks.Ended half.now }
+    requires { half.now.lane.fin_acked ≡ false → is_marked ended.old index ≡ has tasks.Ended half.now }
     ensures { ended.new ≡ slice_set ended.old index (has tasks.Ended half.now) }
 {
     if !half.end_acked() {

@@ -1,6 +1,5 @@
 ghost use Rattle.std.specs.Prelude.{◌≡◌, ◌++◌, ◌+◌, ◌-◌, ◌/◌, ◌<◌, ◌^◌, [], true, false, length, slice_get, slice_set, replicate, None, OnOk, OnErr};
-ghost use Rattle.qs_conn.specs.Marks.{is_marked, IsMarkedBeside, IsUnmarkedBeside, AreFull, AreMarkedBelow};
-ghost use Rattle.qs_conn.specs.Untold.{IsClear};
+ghost use Rattle.qs_conn.specs.Marks.{IsClear, is_marked, IsMarkedBeside, IsUnmarkedBeside, AreFull, AreMarkedBelow};
 
 use crate::bits::{Bits, FLAGS_PER_WORD, Row};
 use crate::marks::Marks;

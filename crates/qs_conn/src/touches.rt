@@ -1,6 +1,7 @@
 //! Which receiving lanes of one type may have a limit that is to be raised.
-ghost use Rattle.std.specs.Prelude.{◌≡◌, ◌++◌, ◌-◌, ◌<◌, [], ℕ, true, false, length, take, replicate, IfSome, OnOk, OnErr};
+ghost use Rattle.std.specs.Prelude.{◌≡◌, ◌+◌, ◌<◌, ◌^◌, [], ℕ, true, false, length, IfSome, OnOk};
 ghost use Rattle.qs_conn.specs.declared.touches.Touched.TheVariants as touched;
+ghost use Rattle.qs_conn.specs.Marks.{HasRoom, IsWider};
 ghost use Rattle.qs_conn.specs.Touches.{is_touched, times_noted, IsTaken};
 
 use crate::marks::Marks;
@@ -33,19 +34,14 @@ impl Touches {
         }
     }
 
-    pub(crate) fn open_to(&mut self, count: usize) -> Result<(), NoMemory>
+    #[inline(always)]
+    pub(crate) fn make_room(&mut self, index: usize) -> Result<(), NoMemory>
+        requires { index < 2 ^ 60 }
         ensures lanes { self.new.lanes ≡ self.old.lanes }
-        ensures ok { OnOk result (self.new.marks ≡ self.old.marks ++ replicate (count - length self.old.marks) false) }
-        ensures err { OnErr result (self.new ≡ self.old) }
+        ensures wider { IsWider self.old.marks self.new.marks }
+        ensures ok { OnOk result (HasRoom index self.old.marks → HasRoom (index + 1) self.new.marks) }
     {
-        self.marks.open_to(count)
-    }
-
-    pub(crate) fn close_to(&mut self, count: usize)
-        ensures lanes { self.new.lanes ≡ self.old.lanes }
-        ensures marks { self.new.marks ≡ take count self.old.marks }
-    {
-        self.marks.close_to(count);
+        self.marks.make_room(index)
     }
 
     #[inline(always)]
@@ -77,9 +73,7 @@ impl Touches {
             Touched::Nothing => self.lanes = Touched::Lane(index),
             Touched::Lane(before) if before == index => {}
             Touched::Lane(before) => {
-                if before < self.marks.len() {
-                    self.marks.set(before, true);
-                }
+                self.marks.set(before, true);
                 self.marks.set(index, true);
                 self.lanes = Touched::Several;
             }

@@ -133,9 +133,7 @@ impl Endpoint {
         let buffer = self.send_buffer();
         self.core.outbox.learn_of_open();
         let before = self.core.outbox.count(stream);
-        self.core.untold_recvs.open_to(stream)?;
-        self.core.untold_sends.open_to(stream)?;
-        self.core.carried.open_to(stream)?;
+        self.core.due.open_to(stream)?;
         open_sends(
             &mut self.core.outbox,
             both(uni, !own),

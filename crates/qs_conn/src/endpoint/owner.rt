@@ -36,12 +36,7 @@ impl Endpoint {
         let bytes = self.offered(stream, bytes);
         match self.core.outbox.write(stream, bytes) {
             Ok(count) => {
-                // A write of nothing leaves the half as it was, so no mark has to be looked at.
-                if count > 0 {
-                    self.core
-                        .untold_sends
-                        .look_blocked(&self.core.outbox, stream);
-                }
+                self.core.note_written(stream, count);
                 self.settle();
                 Ok(count)
             }
@@ -105,7 +100,7 @@ impl Endpoint {
         }
         match self.core.outbox.reset(stream, code) {
             Ok(()) => {
-                self.core.untold_sends.set(stream, true);
+                self.core.due.resets.set(stream, true);
                 self.settle();
                 Ok(())
             }
@@ -190,8 +185,9 @@ impl Endpoint {
         if let Some(fault) = self.no_receiver(stream) {
             return Err(fault);
         }
+        let was = self.core.recvs.stop_to_tell(stream);
         self.core.recvs.stop(stream, code);
-        self.core.untold_recvs.set(stream, true);
+        self.core.note_stop(stream, was);
         self.is_settled = false;
         self.settle();
         Ok(())
@@ -215,10 +211,11 @@ impl Endpoint {
             return Err(fault);
         }
         let was = self.core.is_over(stream);
+        let told = self.core.recvs.stop_to_tell(stream);
         self.core.recvs.stop_and_discard(stream, code);
         let is = self.core.is_over(stream);
         self.core.ended.recount(stream, was, is);
-        self.core.untold_recvs.set(stream, true);
+        self.core.note_stop(stream, told);
         self.is_settled = false;
         self.settle();
         Ok(())

@@ -124,8 +124,9 @@ impl Endpoint {
     {
         self.open_by_peer(stream)?;
         let answers = self.core.limits.tuning.answers_stops;
+        let was = self.core.outbox.reset_of(stream);
         self.core.outbox.stopped(stream, code, answers);
-        self.core.untold_sends.set(stream, true);
+        self.core.note_reset(stream, was);
         Ok(())
     }
 

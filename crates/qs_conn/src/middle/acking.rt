@@ -5,7 +5,6 @@ ghost use Rattle.qs_wire.specs.Layout.{ack_ranges_of};
 ghost use Rattle.qs_machine.specs.Memory.{PieceMayRunOut};
 ghost use Rattle.qs_machine.specs.Outgoing.{first_piece, first_acked_out, acked_at};
 ghost use Rattle.qs_conn.specs.Middle.{IsAtRest, KeepsStreams};
-ghost use Rattle.qs_conn.specs.Carried.{carried_without};
 ghost use Rattle.qs_conn.specs.OwnCarried.{own_left};
 ghost use Rattle.qs_conn.specs.Ended.{half_of};
 ghost use Rattle.std.specs.List.{FoldsTo};
@@ -16,8 +15,6 @@ ghost use Rattle.qs_conn.specs.Runs.{AcksAhead, AcksBoth, AcksNamed, AcksPacket,
 use super::Core;
 use crate::newly_told::{Silent, Told};
 use crate::outbox::{KeptPacket, Row};
-use crate::slot::Kind;
-use crate::untold::look_again;
 use qs_ranges::NoMemory;
 use qs_send::{AckPass, Item, Piece};
 use qs_wire::{AckRanges, StreamId};
@@ -191,30 +188,26 @@ impl Core {
         ensures streams { KeepsStreams self.old self.new }
     {
         self.outbox.learn_apart();
-        look_again(&mut self.untold_recvs, &mut self.untold_sends, &piece);
         let Some(stream) = half_of(&piece) else {
             self.outbox.ack_kept(packet, piece)?;
-            self.drop_unless(packet, piece);
+            self.drop_own(packet, piece);
             return Ok(());
         };
         let was = self.is_over(stream);
         self.outbox.ack_kept(packet, piece)?;
         let is = self.is_over(stream);
         self.ended.recount(stream, was, is);
-        if let Piece::Data { .. } = piece {
-            return Ok(());
-        }
-        self.drop_unless(packet, piece);
-        // Of a reset that the peer has nothing is left to send.
-        self.unmark_told(Kind::ResetStream, stream);
         Ok(())
     }
 
-    fn drop_unless(&mut self, packet: KeptPacket, piece: Piece)
-        ensures { self.new ≡ record self.old { carried = if packet.late then self.old.carried else carried_without piece self.old.recvs self.old.outbox.sends self.old.carried; own = if packet.late then self.old.own else own_left piece self.old.own } }
+    fn drop_own(&mut self, packet: KeptPacket, piece: Piece)
+        ensures { self.new ≡ record self.old { own = if packet.late then self.old.own else own_left piece self.old.own } }
     {
-        if !packet.late {
-            self.drop_carried(&piece);
+        if packet.late {
+            return;
+        }
+        if let Piece::Told(item) = piece {
+            self.own.remove(&item);
         }
     }
 }

@@ -6,7 +6,8 @@ ghost use Rattle.qs_send.specs.declared.piece.Piece.{Piece};
 ghost use Rattle.qs_machine.specs.Tables.{lookup};
 ghost use Rattle.qs_machine.specs.Due.{StreamGoes};
 ghost use Rattle.qs_machine.specs.Outgoing.{IsBlockedAt};
-ghost use Rattle.qs_conn.specs.Untold.{HasMore};
+ghost use Rattle.qs_machine.specs.Heard.{is_told};
+ghost use Rattle.qs_conn.specs.Due.{IsMarkedAt, IsNotedBlock, marks_of};
 ghost use Rattle.qs_machine.specs.Ends.{End};
 ghost use Rattle.qs_machine.specs.Filling.{IsAsked};
 ghost use Rattle.qs_conn.specs.declared.filling.Wish.{Wish};
@@ -16,6 +17,7 @@ ghost use Rattle.qs_conn.specs.Marks.{IsBefore, IsIdle};
 ghost use Rattle.qs_conn.specs.Tasks.{IsOpen};
 
 use super::Core;
+use crate::due::Due;
 use crate::filling::{
     Course, LEAST_STREAM_FRAME, Packet, Wish, cut_to, full_at, put_ack_if, put_chunk, put_item,
 };
@@ -23,7 +25,6 @@ use crate::outbox::Outbox;
 use crate::own_carried::OWN_ITEMS;
 use crate::send_marks::Task;
 use crate::slot::{Kind, Slot};
-use crate::untold::Untold;
 use qs_ranges::RangeSet;
 use qs_wire::{Dir, StreamId};
 
@@ -67,10 +68,16 @@ impl Core {
         if self.outbox.may_have(Task::Bytes) {
             return false;
         }
-        if self.untold_sends.may_have() {
+        if self.may_tell(Kind::ResetStream) {
             return false;
         }
-        !self.untold_recvs.may_have()
+        if self.may_tell(Kind::StopSending) {
+            return false;
+        }
+        if self.may_tell(Kind::MaxStreamData) {
+            return false;
+        }
+        !self.may_tell(Kind::StreamDataBlocked)
     }
 
     #[tactic(auto, using(crate::proofs::Cores::fills_same))]
@@ -132,12 +139,12 @@ impl Core {
         }
         let mut packet = packet;
         let mut from = 0;
-        while let Some(stream) = self.next_untold(kind, from) {
+        while let Some(stream) = self.next_marked(kind, from) {
             packet = self.put_slot(kind.at(stream), out, packet);
             if packet.is_full {
                 return packet;
             }
-            self.unmark_told(kind, stream);
+            self.due.clear(kind, stream);
             from = stream.value() + 1;
         }
         packet
@@ -148,28 +155,24 @@ impl Core {
         requires { IsCore self.now }
         ensures { result ≡ false → (n : ℕ) (e : End) → IsIdle (end_of self.now e) (slot_at kind n) }
     {
-        match kind {
-            Kind::ResetStream | Kind::StreamDataBlocked => self.untold_sends.may_have(),
-            Kind::StopSending | Kind::MaxStreamData => self.untold_recvs.may_have(),
-        }
+        self.due.marks(kind).may_have()
     }
 
-    pub(super) fn next_untold(&self, kind: Kind, from: u64) -> Option<StreamId>
+    pub(super) fn next_marked(&self, kind: Kind, from: u64) -> Option<StreamId>
         requires core { IsCore self.now }
         requires from { from ≤ 2 ^ 62 }
         ensures from { IfSome result (λ n. from ≤ n) }
+        ensures marked { IfSome result (λ n. is_told (marks_of kind self.now.due) n ≡ true) }
         ensures idle { (n : ℕ) (e : End) → from ≤ n → IsBefore n result → IsIdle (end_of self.now e) (slot_at kind n) }
     {
-        match kind {
-            Kind::ResetStream | Kind::StreamDataBlocked => self.untold_sends.next(from),
-            Kind::StopSending | Kind::MaxStreamData => self.untold_recvs.next(from),
-        }
+        self.due.marks(kind).next(from)
     }
 
     // Mostly a look at two numbers shows that none is due.
     #[tactic(auto, using(crate::proofs::Cores::fills_same))]
     #[inline(always)]
     fn put_own_slot(&mut self, slot: Slot, out: &mut [u8], packet: Packet) -> Packet
+        requires own { own_items slot ≡ 1 }
         requires filling { IsFilling self.old out.old packet.len }
         requires memory { HasMemory self.old (length out.old) packet.len 1 }
         ensures stage { (wish : Wish) (room : ℕ) (old e : End) (passed : Passed) → room ≡ length out.old → HasPassedTo passed slot
@@ -185,12 +188,14 @@ impl Core {
 
     #[tactic(auto, using(crate::proofs::Cores::fills_same))]
     fn put_slot(&mut self, slot: Slot, out: &mut [u8], packet: Packet) -> Packet
+        requires marked { IsMarkedAt self.old.due slot }
         requires filling { IsFilling self.old out.old packet.len }
         requires memory { HasMemory self.old (length out.old) packet.len (own_items slot) }
         ensures stage { (wish : Wish) (room : ℕ) (old e : End) (passed : Passed) → room ≡ length out.old → HasPassedTo passed slot
             → Stage wish room old (take packet.len out.old) (end_of self.old e) packet.is_full passed
             → Stage wish room old (take result.len out.new) (end_of self.new e) result.is_full (and_slot passed slot) }
         ensures filled { FillsOn self.old out.old packet.len self.new out.new result.len (own_items slot) }
+        ensures idle { result.is_full ≡ false → (e : End) → IsIdle (end_of self.new e) slot }
     {
         if packet.is_full {
             return packet;
@@ -198,7 +203,7 @@ impl Core {
         let Some(item) = self.limits.current(&self.outbox, &self.recvs, slot) else {
             return packet;
         };
-        if self.has_covered(&item) {
+        if self.own.is_told(&self.outbox, &item) {
             return packet;
         }
         let packet = put_item(&mut self.outbox, &item, out, packet);
@@ -319,13 +324,13 @@ impl Core {
                 }
                 let part = cut_to(chunk, quota);
                 let cut = put_chunk(&mut self.outbox, stream, part, out, len);
-                self.untold_sends.look_blocked(&self.outbox, stream);
+                look_unless_free(&mut self.due, &self.outbox, stream, cut.is_free);
                 return full_at(cut.len, 0);
             }
             let put = put_chunk(&mut self.outbox, stream, chunk, out, len);
             len = put.len;
             quota -= chunk.len;
-            look_unless_free(&mut self.untold_sends, &self.outbox, stream, put.is_free);
+            look_unless_free(&mut self.due, &self.outbox, stream, put.is_free);
             if out.len() - len < LEAST_STREAM_FRAME {
                 return full_at(len, quota);
             }
@@ -347,16 +352,17 @@ impl Core {
     }
 }
 
-// Unless the chunk itself showed that no limit holds the stream back.
+// Unless the chunk itself showed that no limit holds the stream back, or that it did before.
 #[inline(always)]
-#[tactic(auto, using(crate::proofs::Untolds::has_same))]
-fn look_unless_free(marks: &mut Untold, outbox: &Outbox, stream: StreamId, is_free: bool)
-    requires { is_free ≡ true → (m : ℕ) → IsBlockedAt (lookup outbox.now.sends stream) m → ⊥ }
-    ensures more { HasMore marks.old marks.new }
-    ensures marked { (m : ℕ) → IsBlockedAt (lookup outbox.now.sends stream) m → lookup marks.new stream ≡ Some false → ⊥ }
+fn look_unless_free(due: &mut Due, outbox: &Outbox, stream: StreamId, is_free: bool)
+    ensures free { is_free ≡ true → due.new ≡ due.old }
+    ensures noted { is_free ≡ false → IsNotedBlock (IsBlockedAt (lookup outbox.now.sends stream)) stream due.old due.new }
 {
-    if !is_free {
-        marks.look_blocked(outbox, stream);
+    if is_free {
+        return;
+    }
+    if outbox.blocked_at(stream).is_some() {
+        due.blocks.set(stream, true);
     }
 }
 

@@ -4,7 +4,6 @@ ghost use Rattle.qs_conn.specs.Middle.{IsAtRest, KeepsStreams};
 ghost use Rattle.qs_conn.specs.Runs.{Loses};
 
 use super::Core;
-use crate::untold::look_again;
 use qs_ranges::NoMemory;
 
 impl Core {
@@ -30,10 +29,9 @@ impl Core {
         ensures step { Loses number self.old.outbox result self.new.outbox }
     {
         while let Some(piece) = self.outbox.first(number) {
-            look_again(&mut self.untold_recvs, &mut self.untold_sends, &piece);
             self.outbox.learn_apart();
             self.outbox.lose_first(number, piece)?;
-            self.drop_carried(&piece);
+            self.note_lost(&piece);
         }
         Ok(())
     }

@@ -1,8 +1,10 @@
 //! Whether anything is due that may go. By marks and counts, since it is asked before each packet.
+ghost use Rattle.std.specs.Prelude.{◌≡◌};
 ghost use Rattle.qs_machine.specs.Ends.{End};
 ghost use Rattle.qs_machine.specs.Filling.{still_asked};
-ghost use Rattle.qs_conn.specs.Middle.{IsCore, end_of};
+ghost use Rattle.qs_conn.specs.Middle.{IsCore, end_of, own_items};
 ghost use Rattle.qs_conn.specs.Filling.{Passed, and_slot, and_kind, all_items};
+ghost use Rattle.qs_conn.specs.Due.{IsMarkedAt};
 ghost use Rattle.qs_conn.specs.Sending.{TellsDue, TellsGoing, TellsAnyGoing, TellsFrame, TellsItem, TellsStream, TellsWanted};
 
 use super::Core;
@@ -101,7 +103,7 @@ impl Core {
     {
         let mut is_found = is_found;
         let mut from = 0;
-        while let Some(stream) = self.next_untold(kind, from) {
+        while let Some(stream) = self.next_marked(kind, from) {
             is_found = self.has_slot(kind.at(stream), is_found);
             if is_found {
                 return true;
@@ -114,7 +116,8 @@ impl Core {
     // Mostly a look at two numbers shows that none is due.
     #[inline(always)]
     fn has_own_slot(&self, slot: Slot, is_found: bool) -> bool
-        requires { IsCore self.now }
+        requires core { IsCore self.now }
+        requires own { own_items slot ≡ 1 }
         ensures { (e : End) (passed : Passed) → TellsDue is_found (end_of self.now e) passed → TellsDue result (end_of self.now e) (and_slot passed slot) }
     {
         if is_found {
@@ -127,7 +130,8 @@ impl Core {
     }
 
     fn has_slot(&self, slot: Slot, is_found: bool) -> bool
-        requires { IsCore self.now }
+        requires core { IsCore self.now }
+        requires marked { IsMarkedAt self.now.due slot }
         ensures { (e : End) (passed : Passed) → TellsDue is_found (end_of self.now e) passed → TellsDue result (end_of self.now e) (and_slot passed slot) }
     {
         if is_found {
@@ -136,7 +140,7 @@ impl Core {
         let Some(item) = self.limits.current(&self.outbox, &self.recvs, slot) else {
             return false;
         };
-        !self.has_covered(&item)
+        !self.own.is_told(&self.outbox, &item)
     }
 
     fn has_stream(&self) -> bool

@@ -12,10 +12,11 @@ ghost use Rattle.qs_machine.specs.Sums.{or_no_sending, tables_of};
 ghost use Rattle.qs_machine.specs.Outgoing.{lanes_of, first_piece, first_acked_out, first_lost_out, acked_at, IsIdle, IsSentPiece, NoneEmpty, item_noted, halves_acked, items_acked, halves_lost};
 ghost use Rattle.qs_conn.specs.Runs.{held_out};
 
-use super::Outbox;
 use super::halves::half_of;
+use super::{Outbox, halves};
 use crate::places::{index_of, type_of};
 use crate::send_lanes::SendLanes;
+use crate::send_marks::Moves;
 use crate::told::ToldItems;
 use qs_ranges::NoMemory;
 use qs_send::{AckPass, Chunk, Item, Piece, Records, SendState};
@@ -185,7 +186,7 @@ fn piece_acked(
     ensures len { length types.new ≡ 4 }
     ensures halves { OnOk result (tables_of types.new ≡ halves_acked piece.now (tables_of types.old)) }
     ensures items { OnOk result (told.new ≡ items_acked piece.now told.old) }
-    ensures err { OnErr result (types.new ≡ types.old) }
+    ensures err { OnErr result (tables_of types.new ≡ tables_of types.old) }
     ensures same { OnErr result (told.new ≡ told.old) }
     ensures asks { OnErr result (PieceMayRunOut (lanes_of (tables_of types.old)) told.old piece.now) }
 {
@@ -195,6 +196,7 @@ fn piece_acked(
     }
 }
 
+#[tactic(auto, using(crate::proofs::LaneEdits::over_acked))]
 pub(super) fn chunk_acked(
     types: &mut [SendLanes; 4],
     stream: StreamId,
@@ -204,11 +206,18 @@ pub(super) fn chunk_acked(
     requires sent { WasSent (or_no_sending (lookup (tables_of types.old) stream)).lane chunk }
     ensures len { length types.new ≡ 4 }
     ensures ok { OnOk result (tables_of types.new ≡ updated (tables_of types.old) stream (λ s. after_acked s chunk) (lookup (tables_of types.old) stream)) }
-    ensures err { OnErr result (types.new ≡ types.old) }
+    ensures err { OnErr result (tables_of types.new ≡ tables_of types.old) }
     ensures asks { OnErr result (ChunkMayRunOut (or_no_sending (lookup (tables_of types.old) stream)).lane chunk) }
 {
-    let lanes = &mut types[type_of(stream)];
-    lanes.acked(index_of(stream), chunk)
+    let (answer, ends) = halves::edit(types, stream, (Ok(()), false), Moves::Room, |half| {
+        let answer = half.acked(chunk);
+        (answer, half.end_acked())
+    });
+    if ends {
+        let lanes = &mut types[type_of(stream)];
+        lanes.settle(index_of(stream));
+    }
+    answer
 }
 
 // A RESET_STREAM is marked in its half, once: the half's state follows from it.
@@ -217,7 +226,7 @@ fn item_acked(types: &mut [SendLanes; 4], told: &mut ToldItems, item: Item) -> R
     ensures len { length types.new ≡ 4 }
     ensures halves { OnOk result (tables_of types.new ≡ halves_acked (pieces.Told item) (tables_of types.old)) }
     ensures items { OnOk result (told.new ≡ item_noted item told.old) }
-    ensures err { OnErr result (types.new ≡ types.old) }
+    ensures err { OnErr result (tables_of types.new ≡ tables_of types.old) }
     ensures same { OnErr result (told.new ≡ told.old) }
     ensures asks { OnErr result (NoteMayRunOut told.old item) }
 {
@@ -234,8 +243,7 @@ fn reset_acked(types: &mut [SendLanes; 4], stream: StreamId)
     ensures after { tables_of types.new ≡ updated (tables_of types.old) stream after_reset_acked (lookup (tables_of types.old) stream) }
 {
     if matches!(half_of(types, stream).state(), SendState::ResetSent) {
-        let lanes = &mut types[type_of(stream)];
-        lanes.reset_acked(index_of(stream));
+        halves::edit(types, stream, (), Moves::All, |half| half.reset_acked());
     }
 }
 
@@ -243,7 +251,7 @@ fn piece_lost(types: &mut [SendLanes; 4], piece: &Piece) -> Result<(), NoMemory>
     requires { IsSentPiece (tables_of types.old) piece.now }
     ensures len { length types.new ≡ 4 }
     ensures ok { OnOk result (tables_of types.new ≡ halves_lost piece.now (tables_of types.old)) }
-    ensures err { OnErr result (types.new ≡ types.old) }
+    ensures err { OnErr result (tables_of types.new ≡ tables_of types.old) }
 {
     match *piece {
         Piece::Data { stream, chunk } => chunk_lost(types, stream, chunk),
@@ -251,13 +259,13 @@ fn piece_lost(types: &mut [SendLanes; 4], piece: &Piece) -> Result<(), NoMemory>
     }
 }
 
+#[tactic(auto, using(crate::proofs::LaneEdits::over_lost))]
 fn chunk_lost(types: &mut [SendLanes; 4], stream: StreamId, chunk: Chunk) -> Result<(), NoMemory>
     requires there { is_some (lookup (tables_of types.old) stream) ≡ true }
     requires sent { WasSent (or_no_sending (lookup (tables_of types.old) stream)).lane chunk }
     ensures len { length types.new ≡ 4 }
     ensures ok { OnOk result (tables_of types.new ≡ updated (tables_of types.old) stream (λ s. after_lost s chunk) (lookup (tables_of types.old) stream)) }
-    ensures err { OnErr result (types.new ≡ types.old) }
+    ensures err { OnErr result (tables_of types.new ≡ tables_of types.old) }
 {
-    let lanes = &mut types[type_of(stream)];
-    lanes.lost(index_of(stream), chunk)
+    halves::edit(types, stream, Ok(()), Moves::All, |half| half.lost(chunk))
 }

@@ -2,17 +2,19 @@
 ghost use Rattle.std.specs.Prelude.{◌≡◌, ◌≤◌, ◌<◌, ◌^◌, ℕ, length, is_some, true, false, Some, IfSome};
 ghost use Rattle.qs_send.specs.Lane.{Sending};
 ghost use Rattle.qs_send.specs.Sound.{IsLawful};
-ghost use Rattle.qs_machine.specs.Tables.{lookup};
+ghost use Rattle.qs_machine.specs.Tables.{lookup, updated};
 ghost use Rattle.qs_machine.specs.Sums.{or_no_sending, tables_of};
 ghost use Rattle.qs_machine.specs.News.{IsLeast, IsHeld};
+ghost use Rattle.std.specs.Fn.{FnOnceTakesAtMut, FnOnceReturnsAtMut};
+ghost use Rattle.qs_conn.specs.Edits.{IsEditedIn, LeavesStill, MaySet, OrStays, after_set};
 ghost use Rattle.qs_conn.specs.Marks.{IsHeldOf};
-ghost use Rattle.qs_conn.specs.Tasks.{IsQuiet, HasTask, IsSought, IsSoughtOf};
+ghost use Rattle.qs_conn.specs.Tasks.{IsQuiet, HasTask, IsSought, IsSoughtOf, has};
 
 use crate::places::{index_from, index_of, least_stream, type_of};
-use crate::send_lanes::SendLanes;
-use crate::send_marks::{Search, Task};
+use crate::send_lanes::{SendLanes, Setting};
+use crate::send_marks::{Moves, Search, Task};
 use crate::told_streams::ToldStreams;
-use qs_send::SendView;
+use qs_send::{SendHalf, SendView};
 use qs_wire::StreamId;
 
 #[inline(always)]
@@ -22,6 +24,53 @@ pub(super) fn is_open(types: &[SendLanes; 4], stream: StreamId) -> bool
 {
     let lanes = &types[type_of(stream)];
     index_of(stream) < lanes.len()
+}
+
+/// Changes the sending half of an open stream: the one way in. One that is over stays as it is, and what is given is the answer.
+#[inline(always)]
+#[tactic(auto, using(qs_machine::proofs::TableEdits::open_there, qs_machine::proofs::TableEdits::half_is))]
+pub(super) fn edit<R: Drop, F: FnOnce(&mut SendHalf) -> R>(
+    types: &mut [SendLanes; 4],
+    stream: StreamId,
+    over: R,
+    moves: Moves,
+    change: F,
+) -> R
+    requires open { is_some (lookup (tables_of types.old) stream) ≡ true }
+    requires callable { FnOnceTakesAtMut F.FnOnce change (or_no_sending (lookup (tables_of types.old) stream)) }
+    requires stays { LeavesStill F.FnOnce change moves (or_no_sending (lookup (tables_of types.old) stream)) }
+    ensures len { length types.new ≡ 4 }
+    ensures lawful { IsLawful (or_no_sending (lookup (tables_of types.old) stream)) }
+    ensures edited { IsEditedIn (OrStays (FnOnceReturnsAtMut F.FnOnce change) over) (or_no_sending (lookup (tables_of types.old) stream)) (tables_of types.old) stream result (tables_of types.new) }
+{
+    let lanes = &mut types[type_of(stream)];
+    let index = index_of(stream);
+    lanes.learn_lawful(index);
+    lanes.edit(index, over, moves, change)
+}
+
+/// Sets a value of a stream's half, where it has one, also of one that is over.
+#[tactic(auto, using(qs_machine::proofs::TableEdits::open_there, qs_machine::proofs::TableEdits::updated_is))]
+pub(super) fn set(types: &mut [SendLanes; 4], stream: StreamId, setting: Setting)
+    requires { MaySet setting }
+    ensures len { length types.new ≡ 4 }
+    ensures after { tables_of types.new ≡ updated (tables_of types.old) stream (after_set setting) (lookup (tables_of types.old) stream) }
+{
+    if is_open(types, stream) {
+        let lanes = &mut types[type_of(stream)];
+        lanes.set(index_of(stream), setting);
+    }
+}
+
+#[inline(always)]
+#[tactic(auto, using(qs_machine::proofs::TableEdits::open_there, qs_machine::proofs::TableEdits::half_is))]
+pub(super) fn has(types: &[SendLanes; 4], stream: StreamId, task: Task) -> bool
+    requires len { length types.now ≡ 4 }
+    requires open { is_some (lookup (tables_of types.now) stream) ≡ true }
+    ensures { result ≡ has task (or_no_sending (lookup (tables_of types.now) stream)) }
+{
+    let lanes = &types[type_of(stream)];
+    lanes.has(index_of(stream), task)
 }
 
 /// What holds of an open stream's half. It does nothing: a caller learns the clause.

@@ -1,24 +1,33 @@
-ghost use Rattle.std.specs.Prelude.{◌≡◌, ◌+◌, ◌-◌, ◌≤◌, ◌<◌, ◌↔◌, ◌++◌, ◌∷◌, [], None, vec_len, vec_capacity, IsTrue, length, is_some, true, OnOk, OnErr};
+ghost use Rattle.std.specs.Prelude.{◌≡◌, ◌⊎◌, ◌+◌, ◌-◌, ◌≤◌, ◌<◌, ◌↔◌, ◌++◌, ◌∷◌, [], None, vec_len, vec_capacity, IsTrue, length, is_some, true, false, OnOk, OnErr};
 ghost use Rattle.std.specs.FinMap as fmap;
 ghost use Rattle.qs_ranges.specs.Numbers.{MAX_VARINT};
 ghost use Rattle.qs_send.specs.declared.piece.Item.{Item};
 ghost use Rattle.qs_send.specs.declared.piece.Piece.TheVariants as pieces;
-ghost use Rattle.qs_send.specs.Lane.{Sending, sent_lane, bytes_of, after_blocked};
+ghost use Rattle.qs_send.specs.Lane.{Sending, sent_lane, bytes_of, after_sent};
 ghost use Rattle.qs_send.specs.Chunks.{has_unsent, IsDueChunk, IsHeldByRoom, HasBytes};
 ghost use Rattle.qs_conn.specs.Filling.{last_data, pieces_at};
-ghost use Rattle.qs_conn.specs.Tasks.{IsDoneAfter, IsFree};
+ghost use Rattle.qs_conn.specs.Tasks.{IsDoneAfter, IsFree, IsQuiet, IsShort};
+ghost use Rattle.qs_conn.specs.declared.send_marks.Task.TheVariants as tasks;
 ghost use Rattle.qs_machine.specs.Tables.{lookup, updated};
-ghost use Rattle.qs_machine.specs.Sums.{or_none, tables_of};
+ghost use Rattle.qs_machine.specs.Sums.{or_none, or_no_sending, tables_of};
 ghost use Rattle.qs_machine.specs.Outgoing.{on_lane, sent_sum, chunk_put, item_put_out, HasSending, ChunkFound, MayTell, IsCarried, IsIdle, AreBelow, halves_told, with_pending};
 
-use super::Outbox;
-use super::halves::{half_of, is_open};
+use super::halves::half_of;
+use super::{Outbox, halves};
 use crate::piece_room::PieceRoom;
-use crate::places::{index_of, type_of};
-use crate::send_lanes::{SendLanes, Sent};
+use crate::send_lanes::{SendLanes, Setting};
+use crate::send_marks::{Moves, Task};
 use qs_ranges::NoMemory;
 use qs_send::{Chunk, Item, Piece, Records};
 use qs_wire::StreamId;
+
+#[derive(Clone, Copy, Drop)]
+pub(crate) struct Sent {
+    pub(crate) moved: u64,
+    pub(crate) is_done: bool,
+    /// Then the chunk brought it to no limit, so it needn't be looked at for STREAM_DATA_BLOCKED.
+    pub(crate) is_free: bool,
+}
 
 impl Outbox {
     /// Before the packet is filled, so that a refusal changes nothing.
@@ -75,18 +84,18 @@ impl Outbox {
         half_of(&self.types, stream).bytes(chunk)
     }
 
+    #[tactic(auto, using(crate::proofs::Outboxes::half_there, crate::proofs::Outboxes::known, crate::proofs::Flows::open_half, crate::proofs::Flows::due_half, crate::proofs::Flows::made_chunk_sum, crate::proofs::Flows::sum_now))]
     pub(crate) fn put_chunk(&mut self, stream: StreamId, chunk: Chunk) -> Sent
         requires spare { 0 < self.old.spare }
         requires due { (s : Sending) × HasSending self.old stream s × IsDueChunk s chunk }
         requires small { sent_sum (on_lane stream (λ l. sent_lane l chunk) self.old).sends ≤ MAX_VARINT }
         ensures put { self.new ≡ chunk_put stream chunk self.old }
         ensures done { result.is_done ≡ true → IsDoneAfter self.old stream chunk }
-        ensures free { result.is_free ≡ true → IsFree self.old stream }
+        ensures free { result.is_free ≡ true → IsFree self.old stream chunk }
+        ensures held { result.is_free ≡ false → IsShort self.old stream }
     {
-        let lanes = &mut self.types[type_of(stream)];
-        let index = index_of(stream);
-        lanes.learn_lawful(index);
-        let sent = lanes.sent(index, chunk);
+        halves::learn_lawful(&self.types, stream);
+        let sent = send(&mut self.types, stream, chunk);
         self.sent += sent.moved;
         hold(&mut self.pending, Piece::Data { stream, chunk });
         self.spare -= 1;
@@ -136,24 +145,38 @@ impl Outbox {
     }
 }
 
+// One that is over has no chunk that is due.
+#[tactic(auto, using(crate::proofs::LaneEdits::over_sent))]
+#[inline]
+fn send(types: &mut [SendLanes; 4], stream: StreamId, chunk: Chunk) -> Sent
+    requires open { is_some (lookup (tables_of types.old) stream) ≡ true }
+    requires due { IsDueChunk (or_no_sending (lookup (tables_of types.old) stream)) chunk }
+    ensures len { length types.new ≡ 4 }
+    ensures after { tables_of types.new ≡ updated (tables_of types.old) stream (λ s. after_sent s chunk) (lookup (tables_of types.old) stream) }
+    ensures moved { let half = or_no_sending (lookup (tables_of types.old) stream) in half.lane.sent_end + result.moved ≡ (after_sent half chunk).lane.sent_end }
+    ensures done { result.is_done ≡ true → IsQuiet tasks.Bytes (after_sent (or_no_sending (lookup (tables_of types.old) stream)) chunk) }
+    ensures free { let half = or_no_sending (lookup (tables_of types.old) stream) in result.is_free ≡ true → (half.lane.written ≤ half.lane.limit) ⊎ ((after_sent half chunk).lane.sent_end ≡ half.lane.sent_end) }
+    ensures held { let half = or_no_sending (lookup (tables_of types.old) stream) in result.is_free ≡ false → half.lane.sent_end < half.lane.limit }
+{
+    let (moved, is_free) = halves::edit(types, stream, (0, false), Moves::Sent, |half| {
+        let before = half.sent_end();
+        half.sent(chunk);
+        (half.sent_end() - before, half.written() <= half.limit())
+    });
+    Sent {
+        moved,
+        is_done: !halves::has(types, stream, Task::Bytes),
+        is_free: is_free || moved == 0,
+    }
+}
+
 // The half's state depends on it (RFC 9000, section 3.1).
 fn note_told(types: &mut [SendLanes; 4], item: &Item)
     ensures len { length types.new ≡ 4 }
     ensures after { tables_of types.new ≡ halves_told item.now (tables_of types.old) }
 {
     if let Item::StreamDataBlocked { stream, .. } = *item {
-        note_blocked(types, stream);
-    }
-}
-
-#[tactic(auto, using(qs_machine::proofs::TableEdits::open_there, qs_machine::proofs::TableEdits::updated_is))]
-fn note_blocked(types: &mut [SendLanes; 4], stream: StreamId)
-    ensures len { length types.new ≡ 4 }
-    ensures after { tables_of types.new ≡ updated (tables_of types.old) stream after_blocked (lookup (tables_of types.old) stream) }
-{
-    if is_open(types, stream) {
-        let lanes = &mut types[type_of(stream)];
-        lanes.note_blocked(index_of(stream));
+        halves::set(types, stream, Setting::Blocked);
     }
 }
 

@@ -11,6 +11,7 @@ ghost use Rattle.qs_send.specs.Changes.{changes_by_stop};
 ghost use Rattle.qs_machine.specs.Asking.{waits_for_credit, unsent_of, acked_below_of};
 ghost use Rattle.qs_conn.specs.Marks.{IsBefore, AreEndsMarked};
 ghost use Rattle.qs_conn.specs.Sending.{IsDueOf, IsFunded, MayWrite, HasSent, WasStopped, buffer_room, limit_left};
+ghost use Rattle.qs_conn.specs.Due.{IsBlockedBy};
 ghost use Rattle.qs_conn.specs.Tasks.{IsOpen, IsQuietAt};
 ghost use Rattle.qs_machine.specs.Outgoing.{IsAckedOut, IsAckedReset, IsBlockedAt, WantsMore, reset_by, with_outgoing};
 
@@ -68,6 +69,19 @@ impl Outbox {
             return None;
         }
         Some(limit)
+    }
+
+    /// Whether the last bytes that were written, so many, brought it there.
+    pub(crate) fn is_blocked_by(&self, stream: StreamId, count: usize) -> bool
+        ensures { IsTrue result ↔ ((m : ℕ) × IsBlockedBy count (lookup self.now.sends stream) m) }
+    {
+        let Some(limit) = self.blocked_at(stream) else {
+            return false;
+        };
+        let Some(half) = self.half(stream) else {
+            return false;
+        };
+        half.written() - limit <= count as u64
     }
 
     pub(crate) fn limit_of(&self, stream: StreamId) -> Option<u64>

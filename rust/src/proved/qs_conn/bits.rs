@@ -58,17 +58,6 @@ impl Bits {
         }
     }
 
-    #[inline]
-    pub(crate) fn close_to(&mut self, count: usize) {
-        if self.count <= count {
-            return;
-        }
-        let last = count / FLAGS_PER_WORD;
-        self.words.truncate(last + 1);
-        self.words[last] = cut_at(self.words[last], count % FLAGS_PER_WORD);
-        self.count = count;
-    }
-
     #[inline(always)]
     pub(crate) fn has(&self, index: usize) -> bool {
         let word = self.word(index / FLAGS_PER_WORD);
@@ -126,9 +115,4 @@ impl Row for Left<'_> {
 fn has_bit(word: u64, bit: usize) -> bool {
     debug_assert!(bit < 64);
     (word >> bit) & 1 == 1
-}
-
-fn cut_at(word: u64, bit: usize) -> u64 {
-    debug_assert!(bit < 64);
-    word & ((1 << bit) - 1)
 }

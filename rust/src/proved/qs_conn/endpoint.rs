@@ -2,7 +2,7 @@
 //! One endpoint of a connection.
 
 use crate::proved::qs_conn::by_dir::ByDir;
-use crate::proved::qs_conn::carried::Carried;
+use crate::proved::qs_conn::due::Due;
 use crate::proved::qs_conn::held::Held;
 use crate::proved::qs_conn::limits::Limits;
 use crate::proved::qs_conn::middle::Core;
@@ -11,7 +11,6 @@ use crate::proved::qs_conn::own_carried::OwnCarried;
 use crate::proved::qs_conn::places::type_of;
 use crate::proved::qs_conn::recv_tables::RecvTables;
 use crate::proved::qs_conn::setup::{setup_fault, wide_setup_fault};
-use crate::proved::qs_conn::untold::Untold;
 use crate::proved::qs_calls::{Closed, Closing, PeerLimits, Settings, SetupFault, Share, Tuning};
 use crate::proved::qs_ranges::RangeSet;
 use crate::proved::qs_recv::{next_limit, step_of};
@@ -113,9 +112,7 @@ impl Endpoint {
                 },
                 outbox: Outbox::new(alloc),
                 recvs: RecvTables::new(alloc),
-                untold_recvs: Untold::new(alloc),
-                untold_sends: Untold::new(alloc),
-                carried: Carried::new(alloc),
+                due: Due::new(alloc),
                 own: OwnCarried::new(),
                 ended: ByDir::new(0, 0),
             },
@@ -186,9 +183,7 @@ impl Endpoint {
         if self.is_settled {
             return;
         }
-        self.core
-            .recvs
-            .raise_all(&mut self.core.untold_recvs, &mut self.core.carried.limits);
+        self.core.recvs.raise_all(&mut self.core.due.limits);
         let taken = self.core.recvs.tally().taken;
         let settings = &self.core.limits.settings;
         let step = self.core.limits.tuning.count_step;

@@ -121,7 +121,7 @@ pub(crate) fn cut_to(chunk: Chunk, bytes: usize) -> Chunk {
 pub(crate) struct Put {
     pub len: usize,
     pub is_done: bool,
-    /// Then the stream needs no look at whether it is blocked.
+    /// Then the chunk didn't bring the stream to its limit with more written.
     pub is_free: bool,
 }
 

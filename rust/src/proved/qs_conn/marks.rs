@@ -57,23 +57,25 @@ impl Marks {
         self.marks.open_to(count)
     }
 
-    #[inline]
-    pub(crate) fn open_marked_to(&mut self, count: usize) -> Result<(), NoMemory> {
-        let before = self.len();
-        let missing = count.saturating_sub(before);
-        self.open_to(count)?;
-        for opened in 0..missing {
-            self.set(before + opened, true);
+    /// Makes room for an index, where all below it have room. It comes in blocks, so that mostly it is there.
+    #[inline(always)]
+    pub(crate) fn make_room(&mut self, index: usize) -> Result<(), NoMemory> {
+        debug_assert!(index < 1 << 60);
+        if index % FLAGS_PER_WORD > 0 {
+            return Ok(());
         }
-        Ok(())
+        self.open_to(index + FLAGS_PER_WORD)
     }
 
+    /// Takes away each mark from an index on.
     #[inline]
-    pub(crate) fn close_to(&mut self, count: usize) {
-        self.marks.close_to(count);
-        self.first = least_from(0, &self.marks, &self.words);
+    pub(crate) fn clear_from(&mut self, count: usize) {
+        for index in count..self.len() {
+            self.set(index, false);
+        }
     }
 
+    /// Where there is room for the index: past it none is marked.
     #[inline(always)]
     pub(crate) fn set(&mut self, index: usize, is_marked: bool) {
         // Most marks stay as they are.
@@ -90,6 +92,9 @@ impl Marks {
     // Both apart, so that a caller that changes nothing pays for one look at the mark.
     #[inline(never)]
     fn turn_on(&mut self, index: usize) {
+        if index >= self.len() {
+            return;
+        }
         self.marks.set(index, true);
         self.words.set(index / FLAGS_PER_WORD, true);
         self.first = least_index(self.first, index);

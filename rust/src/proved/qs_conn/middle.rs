@@ -2,22 +2,20 @@
 //! What an endpoint knows and has to send.
 
 use crate::proved::qs_conn::by_dir::ByDir;
-use crate::proved::qs_conn::carried::Carried;
+use crate::proved::qs_conn::due::Due;
 use crate::proved::qs_conn::endpoint::{is_uni, role_bit};
 use crate::proved::qs_conn::limits::Limits;
 use crate::proved::qs_conn::outbox::Outbox;
 use crate::proved::qs_conn::own_carried::OwnCarried;
 use crate::proved::qs_conn::places::type_of;
 use crate::proved::qs_conn::recv_tables::RecvTables;
-use crate::proved::qs_conn::untold::Untold;
 use crate::proved::qs_wire::StreamId;
 
 mod acking;
-mod carrying;
 mod filling;
 mod losing;
+mod noting;
 mod sendable;
-mod unmarking;
 
 /// The limits, the streams and the packets: what a packet is filled from, and what an ACK or a loss changes. Apart from received packet
 /// numbers and the close, so that proofs of these carry less.
@@ -25,11 +23,7 @@ pub(crate) struct Core {
     pub limits: Limits,
     pub outbox: Outbox,
     pub recvs: RecvTables,
-    /// Of which receiving halves a limit or a stop may still have to be sent.
-    pub untold_recvs: Untold,
-    /// Of which sending halves a reset or a limit may still have to be sent.
-    pub untold_sends: Untold,
-    pub carried: Carried,
+    pub due: Due,
     pub own: OwnCarried,
     pub ended: ByDir<u64>,
 }

@@ -4,7 +4,8 @@ use crate::shim::Vec;
 use crate::proved::qs_conn::holds::sum_held;
 use crate::proved::qs_conn::piece_room::PieceRoom;
 use crate::proved::qs_conn::places::{index_of, type_of};
-use crate::proved::qs_conn::send_lanes::SendLanes;
+use crate::proved::qs_conn::send_lanes::{SendLanes, Setting};
+use crate::proved::qs_conn::send_marks::{Moves, Task};
 use crate::proved::qs_conn::told::ToldItems;
 use halves::{half_of, is_open};
 use crate::proved::qs_calls::SendReport;
@@ -168,28 +169,44 @@ impl Outbox {
 
     #[inline]
     pub(crate) fn write(&mut self, stream: StreamId, bytes: &[u8]) -> Result<usize, SendFault> {
-        let lanes = &mut self.types[type_of(stream)];
-        lanes.write(index_of(stream), bytes)
+        // A write to a full buffer costs no more than its marks.
+        if !halves::has(&self.types, stream, Task::Writable) {
+            match half_of(&self.types, stream).refusal() {
+                Some(fault) => return Err(fault),
+                None => return Ok(0),
+            }
+        }
+        let types = &mut self.types;
+        let over = Err(SendFault::Finished);
+        halves::edit(types, stream, over, Moves::Room, |half| half.write(bytes))
     }
 
     #[inline]
     pub(crate) fn finish(&mut self, stream: StreamId) -> Result<(), SendFault> {
-        let lanes = &mut self.types[type_of(stream)];
-        lanes.finish(index_of(stream))
+        let types = &mut self.types;
+        let over = Err(SendFault::Finished);
+        halves::edit(types, stream, over, Moves::End, |half| half.finish())
     }
 
     #[inline]
     pub(crate) fn reset(&mut self, stream: StreamId, code: u64) -> Result<(), SendFault> {
         debug_assert!(code <= 0x3fff_ffff_ffff_ffff);
-        let lanes = &mut self.types[type_of(stream)];
-        lanes.reset(index_of(stream), code)
+        let types = &mut self.types;
+        let over = Err(SendFault::Finished);
+        halves::edit(types, stream, over, Moves::All, |half| half.reset(code))
     }
 
     #[inline]
     pub(crate) fn stopped(&mut self, stream: StreamId, code: u64, owner_answers: bool) {
         debug_assert!(code <= 0x3fff_ffff_ffff_ffff);
-        let lanes = &mut self.types[type_of(stream)];
-        lanes.stopped(index_of(stream), code, owner_answers);
+        let types = &mut self.types;
+        halves::edit(types, stream, (), Moves::All, |half| {
+            if owner_answers {
+                half.told_stop(code);
+            } else {
+                half.stopped(code);
+            }
+        });
     }
 
     #[inline]
@@ -200,14 +217,12 @@ impl Outbox {
 
     #[inline]
     pub(crate) fn set_buffer(&mut self, stream: StreamId, size: u32) {
-        let lanes = &mut self.types[type_of(stream)];
-        lanes.set_buffer(index_of(stream), size);
+        halves::set(&mut self.types, stream, Setting::Buffer(size));
     }
 
     #[inline]
     pub(crate) fn allow(&mut self, stream: StreamId, limit: u64) {
         debug_assert!(limit <= 0x3fff_ffff_ffff_ffff);
-        let lanes = &mut self.types[type_of(stream)];
-        lanes.allow(index_of(stream), limit);
+        halves::set(&mut self.types, stream, Setting::Limit(limit));
     }
 }

@@ -4,8 +4,8 @@ use crate::shim::Vec;
 use crate::proved::qs_conn::holds::{Holds, sum_held};
 use crate::proved::qs_conn::marks::Marks;
 use crate::proved::qs_conn::recv_marks::{RecvMarks, RecvTask};
+use crate::proved::qs_conn::stream_marks::StreamMarks;
 use crate::proved::qs_conn::touches::Touches;
-use crate::proved::qs_conn::untold::Untold;
 use crate::proved::qs_machine::Tally;
 use crate::proved::qs_ranges::NoMemory;
 use crate::proved::qs_recv::{RecvHalf, RingAssembly, Share};
@@ -69,31 +69,32 @@ impl RecvLanes {
         debug_assert!(1 <= window);
         debug_assert!(window <= 1 << 30);
         debug_assert!(count <= 1 << 60);
-        let before = self.halves.len();
-        let missing = count.saturating_sub(before);
-        for _opened in 0..missing {
-            if let Err(_refused) = open_one(&mut self.halves, self.alloc, window, share) {
-                self.halves.truncate(before);
-                return Err(NoMemory);
+        let before = self.len();
+        for _index in before..count {
+            if let Err(refused) = self.open_next(window, share) {
+                self.close_to(before);
+                return Err(refused);
             }
         }
-        if let Err(_refused) = self.touched.open_to(count) {
-            self.halves.truncate(before);
-            return Err(NoMemory);
-        }
-        if let Err(_refused) = self.news.open_to(count) {
-            self.halves.truncate(before);
-            self.touched.close_to(before);
-            return Err(NoMemory);
-        }
+        Ok(())
+    }
+
+    // Marks come first: room for more of them than there are halves changes nothing. A half begins with none.
+    fn open_next(&mut self, window: u64, share: Share) -> Result<(), NoMemory> {
+        debug_assert!(1 <= window);
+        debug_assert!(window <= 1 << 30);
+        let index = self.halves.len();
+        self.touched.make_room(index)?;
+        self.news.make_room(index)?;
+        let fresh: Half = RecvHalf::new(self.alloc, window, share)?;
+        self.halves.push(fresh)?;
         Ok(())
     }
 
     #[inline]
     pub(crate) fn close_to(&mut self, count: usize) {
         self.halves.truncate(count);
-        self.touched.close_to(count);
-        self.news.close_to(count);
+        self.news.clear_from(count);
     }
 
     /// Changes an open lane: the one way in. The sums, the marks and what is to be looked at again follow. Memory that the change fills is
@@ -117,23 +118,12 @@ impl RecvLanes {
 
     /// Only lanes that were touched are looked at. A stream whose limit rises is marked: the new one is in no packet yet.
     #[inline]
-    pub(crate) fn raise_all(
-        &mut self,
-        stream_type: usize,
-        untold: &mut Untold,
-        carried: &mut Untold,
-    ) {
+    pub(crate) fn raise_all(&mut self, stream_type: usize, limits: &mut StreamMarks) {
         debug_assert!(stream_type < 4);
         if self.touched.is_none() {
             return;
         }
-        raise_touched(
-            &mut self.halves,
-            &mut self.touched,
-            stream_type,
-            untold,
-            carried,
-        );
+        raise_touched(&mut self.halves, &mut self.touched, stream_type, limits);
     }
 
     /// The marks of the lanes that have such an answer for their owner.
@@ -153,19 +143,6 @@ impl Holds for RecvLanes {
     fn held(&self) -> u64 {
         sum_held(&self.halves)
     }
-}
-
-fn open_one(
-    halves: &mut Vec<Half>,
-    alloc: Global,
-    window: u64,
-    share: Share,
-) -> Result<(), NoMemory> {
-    debug_assert!(1 <= window);
-    debug_assert!(window <= 1 << 30);
-    let fresh: Half = RecvHalf::new(alloc, window, share)?;
-    halves.push(fresh)?;
-    Ok(())
 }
 
 #[inline(always)]
@@ -198,29 +175,21 @@ fn raise_touched(
     halves: &mut Vec<Half>,
     touched: &mut Touches,
     stream_type: usize,
-    untold: &mut Untold,
-    carried: &mut Untold,
+    limits: &mut StreamMarks,
 ) {
     debug_assert!(stream_type < 4);
     while let Some(index) = touched.pop() {
         if index < halves.len() {
-            raise_at(halves, index, stream_type, untold, carried);
+            raise_at(halves, index, stream_type, limits);
         }
     }
 }
 
-fn raise_at(
-    halves: &mut Vec<Half>,
-    index: usize,
-    stream_type: usize,
-    untold: &mut Untold,
-    carried: &mut Untold,
-) {
+fn raise_at(halves: &mut Vec<Half>, index: usize, stream_type: usize, limits: &mut StreamMarks) {
     debug_assert!(stream_type < 4);
     let half = &mut halves[index];
     if let Some(_limit) = half.raise() {
         let stream = StreamId::new((index * 4 + stream_type) as u64).unwrap();
-        untold.set(stream, true);
-        carried.set(stream, false);
+        limits.set(stream, true);
     }
 }

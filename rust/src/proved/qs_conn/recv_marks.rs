@@ -24,21 +24,17 @@ impl RecvMarks {
         }
     }
 
-    #[inline]
-    pub(crate) fn open_to(&mut self, count: usize) -> Result<(), NoMemory> {
-        let readable = self.readable.len();
-        self.readable.open_to(count)?;
-        if let Err(refused) = self.ended.open_to(count) {
-            self.readable.close_to(readable);
-            return Err(refused);
-        }
-        Ok(())
+    #[inline(always)]
+    pub(crate) fn make_room(&mut self, index: usize) -> Result<(), NoMemory> {
+        debug_assert!(index < 1 << 60);
+        self.readable.make_room(index)?;
+        self.ended.make_room(index)
     }
 
     #[inline]
-    pub(crate) fn close_to(&mut self, count: usize) {
-        self.readable.close_to(count);
-        self.ended.close_to(count);
+    pub(crate) fn clear_from(&mut self, count: usize) {
+        self.readable.clear_from(count);
+        self.ended.clear_from(count);
     }
 
     #[inline]

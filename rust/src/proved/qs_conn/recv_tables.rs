@@ -4,8 +4,8 @@ use crate::proved::qs_conn::marks::Marks;
 use crate::proved::qs_conn::places::{Place, index_from, index_of, least_stream, type_of};
 use crate::proved::qs_conn::recv_lanes::{Half, RecvLanes};
 use crate::proved::qs_conn::recv_marks::RecvTask;
+use crate::proved::qs_conn::stream_marks::StreamMarks;
 use crate::proved::qs_conn::told_streams::ToldStreams;
-use crate::proved::qs_conn::untold::Untold;
 use crate::proved::qs_calls::RecvReport;
 use crate::proved::qs_machine::Tally;
 use crate::proved::qs_ranges::NoMemory;
@@ -301,11 +301,11 @@ impl RecvTables {
     }
 
     #[inline]
-    pub(crate) fn raise_all(&mut self, untold: &mut Untold, carried: &mut Untold) {
-        self.types[0].raise_all(0, untold, carried);
-        self.types[1].raise_all(1, untold, carried);
-        self.types[2].raise_all(2, untold, carried);
-        self.types[3].raise_all(3, untold, carried);
+    pub(crate) fn raise_all(&mut self, limits: &mut StreamMarks) {
+        self.types[0].raise_all(0, limits);
+        self.types[1].raise_all(1, limits);
+        self.types[2].raise_all(2, limits);
+        self.types[3].raise_all(3, limits);
     }
 }
 

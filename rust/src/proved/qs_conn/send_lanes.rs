@@ -4,16 +4,17 @@ use crate::proved::qs_conn::marks::Marks;
 use crate::proved::qs_conn::send_marks::{Moves, Search, SendMarks, Task};
 use crate::proved::qs_conn::told_marks::ToldMarks;
 use crate::proved::qs_ranges::NoMemory;
-use crate::proved::qs_send::{Chunk, SendFault, SendHalf, SendHalves, SendState, SendView};
+use crate::proved::qs_send::{SendHalf, SendHalves, SendView};
 use crate::proved::qs_wire::StreamId;
 use crate::shim::alloc::Global;
 
+/// What is set of a half, whether it is over or not.
 #[derive(Clone, Copy)]
-pub(crate) struct Sent {
-    pub(crate) moved: u64,
-    pub(crate) is_done: bool,
-    /// Then it needn't be looked at for STREAM_DATA_BLOCKED.
-    pub(crate) is_free: bool,
+pub(crate) enum Setting {
+    Limit(u64),
+    Buffer(u32),
+    /// A packet tells that the stream's limit holds bytes back.
+    Blocked,
 }
 
 // What a half counts for in the two sums.
@@ -77,33 +78,39 @@ impl SendLanes {
         debug_assert!(stream_type < 4);
         debug_assert!(limit <= 0x3fff_ffff_ffff_ffff);
         debug_assert!(count <= 1 << 60);
-        let before = self.halves.len();
-        let missing = count.saturating_sub(before);
-        for opened in 0..missing {
-            let number = (before + opened) as u64 * 4 + stream_type;
-            let id = StreamId::new(number).unwrap();
-            let fresh = SendHalf::new(self.alloc, id, limit, buffer);
-            if let Err(_refused) = self.halves.push(fresh) {
-                self.halves.truncate(before);
-                return Err(NoMemory);
+        let before = self.len();
+        for _index in before..count {
+            if let Err(refused) = self.open_next(stream_type, limit, buffer) {
+                self.close_to(before);
+                return Err(refused);
             }
         }
-        if let Err(_refused) = self.marks.open_to(count, limit, buffer) {
-            self.halves.truncate(before);
-            return Err(NoMemory);
-        }
+        Ok(())
+    }
+
+    // Marks come first: room for more of them than there are halves changes nothing.
+    #[inline(always)]
+    fn open_next(&mut self, stream_type: u64, limit: u64, buffer: u32) -> Result<(), NoMemory> {
+        debug_assert!(stream_type < 4);
+        debug_assert!(limit <= 0x3fff_ffff_ffff_ffff);
+        let index = self.halves.len();
+        self.marks.make_room(index)?;
+        let id = StreamId::new(index as u64 * 4 + stream_type).unwrap();
+        self.halves
+            .push(SendHalf::new(self.alloc, id, limit, buffer))?;
+        self.marks.begin(index, limit, buffer);
         Ok(())
     }
 
     #[inline]
     pub(crate) fn close_to(&mut self, count: usize) {
         self.halves.truncate(count);
-        self.marks.close_to(count);
+        self.marks.clear_from(count);
     }
 
-    // Changes a half: the one way in. The sums and the marks follow. One that is over stays as it is, and what is given is the answer.
+    /// Changes a half: the one way in. The sums and the marks follow. One that is over stays as it is, and what is given is the answer.
     #[inline(always)]
-    fn edit<R, F: FnOnce(&mut SendHalf) -> R>(
+    pub(crate) fn edit<R, F: FnOnce(&mut SendHalf) -> R>(
         &mut self,
         index: usize,
         over: R,
@@ -122,105 +129,22 @@ impl SendLanes {
         answer
     }
 
+    /// Sets a value of a half, also of one that is over.
     #[inline]
-    pub(crate) fn write(&mut self, index: usize, bytes: &[u8]) -> Result<usize, SendFault> {
-        // A write to a full buffer costs no more than its marks.
-        if !self.marks.has(Task::Writable, index) {
-            return write_none(&self.halves.at(index));
-        }
-        self.edit(
-            index,
-            Err(SendFault::Finished),
-            Moves::Room,
-            |half| half.write(bytes),
-        )
-    }
-
-    #[inline]
-    pub(crate) fn finish(&mut self, index: usize) -> Result<(), SendFault> {
-        self.edit(
-            index,
-            Err(SendFault::Finished),
-            Moves::End,
-            |half| half.finish(),
-        )
-    }
-
-    #[inline]
-    pub(crate) fn reset(&mut self, index: usize, code: u64) -> Result<(), SendFault> {
-        debug_assert!(code <= 0x3fff_ffff_ffff_ffff);
-        self.edit(
-            index,
-            Err(SendFault::Finished),
-            Moves::All,
-            |half| half.reset(code),
-        )
-    }
-
-    #[inline]
-    pub(crate) fn stopped(&mut self, index: usize, code: u64, owner_answers: bool) {
-        debug_assert!(code <= 0x3fff_ffff_ffff_ffff);
-        self.edit(
-            index,
-            (),
-            Moves::All,
-            |half| take_stop(half, code, owner_answers),
-        )
-    }
-
-    #[inline]
-    pub(crate) fn allow(&mut self, index: usize, limit: u64) {
-        debug_assert!(limit <= 0x3fff_ffff_ffff_ffff);
-        self.halves.allow(index, limit);
+    pub(crate) fn set(&mut self, index: usize, setting: Setting) {
+        set_in(&mut self.halves, index, setting);
         look_at(&self.halves, &mut self.marks, index);
     }
 
+    /// One that is over takes few bytes from here on. No clause sees it.
     #[inline]
-    pub(crate) fn set_buffer(&mut self, index: usize, size: u32) {
-        self.halves.set_buffer(index, size);
-        look_at(&self.halves, &mut self.marks, index);
+    pub(crate) fn settle(&mut self, index: usize) {
+        self.halves.settle(index);
     }
 
-    #[inline]
-    pub(crate) fn note_blocked(&mut self, index: usize) {
-        self.halves.note_blocked(index);
-        look_at(&self.halves, &mut self.marks, index);
-    }
-
-    #[inline]
-    pub(crate) fn reset_acked(&mut self, index: usize) {
-        self.edit(index, (), Moves::All, |half| half.reset_acked())
-    }
-
-    #[inline]
-    pub(crate) fn sent(&mut self, index: usize, chunk: Chunk) -> Sent {
-        let (moved, is_free) = self.edit(index, (0, false), Moves::Sent, |half| {
-            let before = half.sent_end();
-            half.sent(chunk);
-            (half.sent_end() - before, half.written() <= half.limit())
-        });
-        Sent {
-            moved,
-            is_done: !self.marks.has(Task::Bytes, index),
-            is_free,
-        }
-    }
-
-    #[inline]
-    pub(crate) fn acked(&mut self, index: usize, chunk: Chunk) -> Result<(), NoMemory> {
-        let (answer, ends) = self.edit(index, (Ok(()), false), Moves::Room, |half| {
-            let answer = half.acked(chunk);
-            (answer, half.end_acked())
-        });
-        if ends {
-            self.halves.settle(index);
-        }
-        answer
-    }
-
-    #[inline]
-    pub(crate) fn lost(&mut self, index: usize, chunk: Chunk) -> Result<(), NoMemory> {
-        self.edit(index, Ok(()), Moves::All, |half| half.lost(chunk))
+    #[inline(always)]
+    pub(crate) fn has(&self, index: usize, task: Task) -> bool {
+        self.marks.has(task, index)
     }
 
     #[inline(always)]
@@ -231,7 +155,7 @@ impl SendLanes {
     /// The marks of the halves that came to their end.
     #[inline]
     pub(crate) fn ended_marks(&self) -> &Marks {
-        self.marks.ended()
+        self.marks.of(Task::Ended)
     }
 
     /// The least index from one on whose half has a task.
@@ -290,18 +214,10 @@ fn look_at(halves: &SendHalves, marks: &mut SendMarks, index: usize) {
     }
 }
 
-fn take_stop(half: &mut SendHalf, code: u64, owner_answers: bool) {
-    debug_assert!(code <= 0x3fff_ffff_ffff_ffff);
-    if owner_answers {
-        half.told_stop(code);
-    } else {
-        half.stopped(code);
-    }
-}
-
-fn write_none(half: &SendView<'_>) -> Result<usize, SendFault> {
-    match half.refusal() {
-        Some(fault) => Err(fault),
-        None => Ok(0),
+fn set_in(halves: &mut SendHalves, index: usize, setting: Setting) {
+    match setting {
+        Setting::Limit(limit) => halves.allow(index, limit),
+        Setting::Buffer(size) => halves.set_buffer(index, size),
+        Setting::Blocked => halves.note_blocked(index),
     }
 }

@@ -61,54 +61,32 @@ impl SendMarks {
         }
     }
 
-    /// Makes room for all indexes below a count, for halves that begin with a limit and a buffer.
-    #[inline]
-    pub(crate) fn open_to(&mut self, count: usize, limit: u64, buffer: u32) -> Result<(), NoMemory> {
-        let (bytes, again) = (self.bytes.len(), self.again.len());
-        let (writable, funded) = (self.writable.len(), self.funded.len());
-        let ended = self.ended.len();
-        self.bytes.open_to(count)?;
-        if let Err(refused) = self.again.open_to(count) {
-            self.bytes.close_to(bytes);
-            return Err(refused);
-        }
-        if let Err(refused) = open_as(&mut self.writable, count, buffer > 0) {
-            self.bytes.close_to(bytes);
-            self.again.close_to(again);
-            return Err(refused);
-        }
-        if let Err(refused) = open_as(&mut self.funded, count, buffer > 0 && limit > 0) {
-            self.bytes.close_to(bytes);
-            self.again.close_to(again);
-            self.writable.close_to(writable);
-            return Err(refused);
-        }
-        if let Err(refused) = self.ended.open_to(count) {
-            self.bytes.close_to(bytes);
-            self.again.close_to(again);
-            self.writable.close_to(writable);
-            self.funded.close_to(funded);
-            return Err(refused);
-        }
-        if let Err(refused) = self.stopped.open_to(count) {
-            self.bytes.close_to(bytes);
-            self.again.close_to(again);
-            self.writable.close_to(writable);
-            self.funded.close_to(funded);
-            self.ended.close_to(ended);
-            return Err(refused);
-        }
-        Ok(())
+    #[inline(always)]
+    pub(crate) fn make_room(&mut self, index: usize) -> Result<(), NoMemory> {
+        debug_assert!(index < 1 << 60);
+        self.bytes.make_room(index)?;
+        self.again.make_room(index)?;
+        self.writable.make_room(index)?;
+        self.funded.make_room(index)?;
+        self.ended.make_room(index)?;
+        self.stopped.make_room(index)
     }
 
     #[inline]
-    pub(crate) fn close_to(&mut self, count: usize) {
-        self.bytes.close_to(count);
-        self.again.close_to(count);
-        self.writable.close_to(count);
-        self.funded.close_to(count);
-        self.ended.close_to(count);
-        self.stopped.close_to(count);
+    pub(crate) fn clear_from(&mut self, count: usize) {
+        self.bytes.clear_from(count);
+        self.again.clear_from(count);
+        self.writable.clear_from(count);
+        self.funded.clear_from(count);
+        self.ended.clear_from(count);
+        self.stopped.clear_from(count);
+    }
+
+    /// Marks a half that begins with a limit and a buffer.
+    #[inline(always)]
+    pub(crate) fn begin(&mut self, index: usize, limit: u64, buffer: u32) {
+        self.writable.set(index, buffer > 0);
+        self.funded.set(index, buffer > 0 && limit > 0);
     }
 
     /// Looks again at a half that changed: at what the change may move.
@@ -155,11 +133,6 @@ impl SendMarks {
         self.of(task).may_have()
     }
 
-    #[inline]
-    pub(crate) fn ended(&self) -> &Marks {
-        &self.ended
-    }
-
     #[inline(always)]
     pub(crate) fn next(&self, task: Task, from: usize) -> Option<usize> {
         self.of(task).next(from)
@@ -179,7 +152,7 @@ impl SendMarks {
     }
 
     #[inline(always)]
-    fn of(&self, task: Task) -> &Marks {
+    pub(crate) fn of(&self, task: Task) -> &Marks {
         match task {
             Task::Bytes => &self.bytes,
             Task::Again => &self.again,
@@ -189,15 +162,6 @@ impl SendMarks {
             Task::Stopped => &self.stopped,
         }
     }
-}
-
-// Makes room for all indexes below a count: the new ones have a mark or have none.
-#[inline(always)]
-fn open_as(marks: &mut Marks, count: usize, is_marked: bool) -> Result<(), NoMemory> {
-    if is_marked {
-        return marks.open_marked_to(count);
-    }
-    marks.open_to(count)
 }
 
 // Looks whether a half has something to send again, where it had.

@@ -28,14 +28,10 @@ impl Touches {
         }
     }
 
-    #[inline]
-    pub(crate) fn open_to(&mut self, count: usize) -> Result<(), NoMemory> {
-        self.marks.open_to(count)
-    }
-
-    #[inline]
-    pub(crate) fn close_to(&mut self, count: usize) {
-        self.marks.close_to(count);
+    #[inline(always)]
+    pub(crate) fn make_room(&mut self, index: usize) -> Result<(), NoMemory> {
+        debug_assert!(index < 1 << 60);
+        self.marks.make_room(index)
     }
 
     #[inline(always)]
@@ -57,9 +53,7 @@ impl Touches {
             Touched::Nothing => self.lanes = Touched::Lane(index),
             Touched::Lane(before) if before == index => {}
             Touched::Lane(before) => {
-                if before < self.marks.len() {
-                    self.marks.set(before, true);
-                }
+                self.marks.set(before, true);
                 self.marks.set(index, true);
                 self.lanes = Touched::Several;
             }

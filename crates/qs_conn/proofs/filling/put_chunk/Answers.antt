@@ -22,3 +22,6 @@ returns-in-None-clause-end c = search (rules, frame_size)
 
 pub returns-in-None-clause-rest : goal.returns-in-None-clause-rest
 returns-in-None-clause-rest c = search (rules, frame_size)
+
+pub returns-in-None-clause-held : goal.returns-in-None-clause-held
+returns-in-None-clause-held c = λ off s has. search (rules, frame_size)

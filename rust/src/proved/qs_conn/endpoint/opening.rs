@@ -102,9 +102,7 @@ impl Endpoint {
         let share = self.core.limits.tuning.credit_step;
         let buffer = self.send_buffer();
         let before = self.core.outbox.count(stream);
-        self.core.untold_recvs.open_to(stream)?;
-        self.core.untold_sends.open_to(stream)?;
-        self.core.carried.open_to(stream)?;
+        self.core.due.open_to(stream)?;
         open_sends(
             &mut self.core.outbox,
             both(uni, !own),

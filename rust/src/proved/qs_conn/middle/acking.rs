@@ -2,8 +2,6 @@
 use super::Core;
 use crate::proved::qs_conn::newly_told::{Silent, Told};
 use crate::proved::qs_conn::outbox::{KeptPacket, Row};
-use crate::proved::qs_conn::slot::Kind;
-use crate::proved::qs_conn::untold::look_again;
 use crate::proved::qs_ranges::NoMemory;
 use crate::proved::qs_send::{AckPass, Item, Piece};
 use crate::proved::qs_wire::{AckRanges, StreamId};
@@ -111,28 +109,24 @@ impl Core {
     // One by one, so that after a refusal each piece is either acknowledged or not.
     #[inline(always)]
     fn ack_piece(&mut self, packet: KeptPacket, piece: Piece) -> Result<(), NoMemory> {
-        look_again(&mut self.untold_recvs, &mut self.untold_sends, &piece);
         let Some(stream) = half_of(&piece) else {
             self.outbox.ack_kept(packet, piece)?;
-            self.drop_unless(packet, piece);
+            self.drop_own(packet, piece);
             return Ok(());
         };
         let was = self.is_over(stream);
         self.outbox.ack_kept(packet, piece)?;
         let is = self.is_over(stream);
         self.ended.recount(stream, was, is);
-        if let Piece::Data { .. } = piece {
-            return Ok(());
-        }
-        self.drop_unless(packet, piece);
-        // Of a reset that the peer has nothing is left to send.
-        self.unmark_told(Kind::ResetStream, stream);
         Ok(())
     }
 
-    fn drop_unless(&mut self, packet: KeptPacket, piece: Piece) {
-        if !packet.late {
-            self.drop_carried(&piece);
+    fn drop_own(&mut self, packet: KeptPacket, piece: Piece) {
+        if packet.late {
+            return;
+        }
+        if let Piece::Told(item) = piece {
+            self.own.remove(&item);
         }
     }
 }

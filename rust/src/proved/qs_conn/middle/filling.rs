@@ -2,6 +2,7 @@
 //! A packet is filled with what is due.
 
 use super::Core;
+use crate::proved::qs_conn::due::Due;
 use crate::proved::qs_conn::filling::{
     Course, LEAST_STREAM_FRAME, Packet, Wish, cut_to, full_at, put_ack_if, put_chunk, put_item,
 };
@@ -9,7 +10,6 @@ use crate::proved::qs_conn::outbox::Outbox;
 use crate::proved::qs_conn::own_carried::OWN_ITEMS;
 use crate::proved::qs_conn::send_marks::Task;
 use crate::proved::qs_conn::slot::{Kind, Slot};
-use crate::proved::qs_conn::untold::Untold;
 use crate::proved::qs_ranges::RangeSet;
 use crate::proved::qs_wire::{Dir, StreamId};
 
@@ -38,10 +38,16 @@ impl Core {
         if self.outbox.may_have(Task::Bytes) {
             return false;
         }
-        if self.untold_sends.may_have() {
+        if self.may_tell(Kind::ResetStream) {
             return false;
         }
-        !self.untold_recvs.may_have()
+        if self.may_tell(Kind::StopSending) {
+            return false;
+        }
+        if self.may_tell(Kind::MaxStreamData) {
+            return false;
+        }
+        !self.may_tell(Kind::StreamDataBlocked)
     }
 
     #[inline(always)]
@@ -78,12 +84,12 @@ impl Core {
         }
         let mut packet = packet;
         let mut from = 0;
-        while let Some(stream) = self.next_untold(kind, from) {
+        while let Some(stream) = self.next_marked(kind, from) {
             packet = self.put_slot(kind.at(stream), out, packet);
             if packet.is_full {
                 return packet;
             }
-            self.unmark_told(kind, stream);
+            self.due.clear(kind, stream);
             from = stream.value() + 1;
         }
         packet
@@ -91,19 +97,13 @@ impl Core {
 
     #[inline(always)]
     pub(super) fn may_tell(&self, kind: Kind) -> bool {
-        match kind {
-            Kind::ResetStream | Kind::StreamDataBlocked => self.untold_sends.may_have(),
-            Kind::StopSending | Kind::MaxStreamData => self.untold_recvs.may_have(),
-        }
+        self.due.marks(kind).may_have()
     }
 
     #[inline]
-    pub(super) fn next_untold(&self, kind: Kind, from: u64) -> Option<StreamId> {
+    pub(super) fn next_marked(&self, kind: Kind, from: u64) -> Option<StreamId> {
         debug_assert!(from <= 1 << 62);
-        match kind {
-            Kind::ResetStream | Kind::StreamDataBlocked => self.untold_sends.next(from),
-            Kind::StopSending | Kind::MaxStreamData => self.untold_recvs.next(from),
-        }
+        self.due.marks(kind).next(from)
     }
 
     // Mostly a look at two numbers shows that none is due.
@@ -122,7 +122,7 @@ impl Core {
         let Some(item) = self.limits.current(&self.outbox, &self.recvs, slot) else {
             return packet;
         };
-        if self.has_covered(&item) {
+        if self.own.is_told(&self.outbox, &item) {
             return packet;
         }
         let packet = put_item(&mut self.outbox, &item, out, packet);
@@ -205,13 +205,13 @@ impl Core {
                 }
                 let part = cut_to(chunk, quota);
                 let cut = put_chunk(&mut self.outbox, stream, part, out, len);
-                self.untold_sends.look_blocked(&self.outbox, stream);
+                look_unless_free(&mut self.due, &self.outbox, stream, cut.is_free);
                 return full_at(cut.len, 0);
             }
             let put = put_chunk(&mut self.outbox, stream, chunk, out, len);
             len = put.len;
             quota -= chunk.len;
-            look_unless_free(&mut self.untold_sends, &self.outbox, stream, put.is_free);
+            look_unless_free(&mut self.due, &self.outbox, stream, put.is_free);
             if out.len() - len < LEAST_STREAM_FRAME {
                 return full_at(len, quota);
             }
@@ -233,11 +233,14 @@ impl Core {
     }
 }
 
-// Unless the chunk itself showed that no limit holds the stream back.
+// Unless the chunk itself showed that no limit holds the stream back, or that it did before.
 #[inline(always)]
-fn look_unless_free(marks: &mut Untold, outbox: &Outbox, stream: StreamId, is_free: bool) {
-    if !is_free {
-        marks.look_blocked(outbox, stream);
+fn look_unless_free(due: &mut Due, outbox: &Outbox, stream: StreamId, is_free: bool) {
+    if is_free {
+        return;
+    }
+    if outbox.blocked_at(stream).is_some() {
+        due.blocks.set(stream, true);
     }
 }
 

@@ -2,7 +2,6 @@
 //! Packets are lost.
 
 use super::Core;
-use crate::proved::qs_conn::untold::look_again;
 use crate::proved::qs_ranges::NoMemory;
 
 impl Core {
@@ -16,9 +15,8 @@ impl Core {
     // One by one, so that after a refusal each piece is either lost or outstanding.
     fn lose_pieces(&mut self, number: u64) -> Result<(), NoMemory> {
         while let Some(piece) = self.outbox.first(number) {
-            look_again(&mut self.untold_recvs, &mut self.untold_sends, &piece);
             self.outbox.lose_first(number, piece)?;
-            self.drop_carried(&piece);
+            self.note_lost(&piece);
         }
         Ok(())
     }

@@ -76,7 +76,7 @@ impl Core {
     fn has_marked(&self, kind: Kind, is_found: bool) -> bool {
         let mut is_found = is_found;
         let mut from = 0;
-        while let Some(stream) = self.next_untold(kind, from) {
+        while let Some(stream) = self.next_marked(kind, from) {
             is_found = self.has_slot(kind.at(stream), is_found);
             if is_found {
                 return true;
@@ -105,7 +105,7 @@ impl Core {
         let Some(item) = self.limits.current(&self.outbox, &self.recvs, slot) else {
             return false;
         };
-        !self.has_covered(&item)
+        !self.own.is_told(&self.outbox, &item)
     }
 
     fn has_stream(&self) -> bool {

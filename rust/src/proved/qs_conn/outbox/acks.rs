@@ -1,8 +1,9 @@
 // Made from crates/qs_conn/src/outbox/acks.rt by rust/erase; not edited by hand.
-use super::Outbox;
 use super::halves::half_of;
+use super::{Outbox, halves};
 use crate::proved::qs_conn::places::{index_of, type_of};
 use crate::proved::qs_conn::send_lanes::SendLanes;
+use crate::proved::qs_conn::send_marks::Moves;
 use crate::proved::qs_conn::told::ToldItems;
 use crate::proved::qs_ranges::NoMemory;
 use crate::proved::qs_send::{AckPass, Chunk, Item, Piece, Records, SendState};
@@ -135,8 +136,15 @@ pub(super) fn chunk_acked(
     stream: StreamId,
     chunk: Chunk,
 ) -> Result<(), NoMemory> {
-    let lanes = &mut types[type_of(stream)];
-    lanes.acked(index_of(stream), chunk)
+    let (answer, ends) = halves::edit(types, stream, (Ok(()), false), Moves::Room, |half| {
+        let answer = half.acked(chunk);
+        (answer, half.end_acked())
+    });
+    if ends {
+        let lanes = &mut types[type_of(stream)];
+        lanes.settle(index_of(stream));
+    }
+    answer
 }
 
 // A RESET_STREAM is marked in its half, once: the half's state follows from it.
@@ -150,8 +158,7 @@ fn item_acked(types: &mut [SendLanes; 4], told: &mut ToldItems, item: Item) -> R
 
 fn reset_acked(types: &mut [SendLanes; 4], stream: StreamId) {
     if matches!(half_of(types, stream).state(), SendState::ResetSent) {
-        let lanes = &mut types[type_of(stream)];
-        lanes.reset_acked(index_of(stream));
+        halves::edit(types, stream, (), Moves::All, |half| half.reset_acked());
     }
 }
 
@@ -163,6 +170,5 @@ fn piece_lost(types: &mut [SendLanes; 4], piece: &Piece) -> Result<(), NoMemory>
 }
 
 fn chunk_lost(types: &mut [SendLanes; 4], stream: StreamId, chunk: Chunk) -> Result<(), NoMemory> {
-    let lanes = &mut types[type_of(stream)];
-    lanes.lost(index_of(stream), chunk)
+    halves::edit(types, stream, Ok(()), Moves::All, |half| half.lost(chunk))
 }

@@ -2,16 +2,45 @@
 //! The sending halves of an end, by the type of the stream and by its index: one that is named, and searches.
 
 use crate::proved::qs_conn::places::{index_from, index_of, least_stream, type_of};
-use crate::proved::qs_conn::send_lanes::SendLanes;
-use crate::proved::qs_conn::send_marks::{Search, Task};
+use crate::proved::qs_conn::send_lanes::{SendLanes, Setting};
+use crate::proved::qs_conn::send_marks::{Moves, Search, Task};
 use crate::proved::qs_conn::told_streams::ToldStreams;
-use crate::proved::qs_send::SendView;
+use crate::proved::qs_send::{SendHalf, SendView};
 use crate::proved::qs_wire::StreamId;
 
 #[inline(always)]
 pub(super) fn is_open(types: &[SendLanes; 4], stream: StreamId) -> bool {
     let lanes = &types[type_of(stream)];
     index_of(stream) < lanes.len()
+}
+
+/// Changes the sending half of an open stream: the one way in. One that is over stays as it is, and what is given is the answer.
+#[inline(always)]
+pub(super) fn edit<R, F: FnOnce(&mut SendHalf) -> R>(
+    types: &mut [SendLanes; 4],
+    stream: StreamId,
+    over: R,
+    moves: Moves,
+    change: F,
+) -> R {
+    let lanes = &mut types[type_of(stream)];
+    let index = index_of(stream);
+    lanes.edit(index, over, moves, change)
+}
+
+/// Sets a value of a stream's half, where it has one, also of one that is over.
+#[inline]
+pub(super) fn set(types: &mut [SendLanes; 4], stream: StreamId, setting: Setting) {
+    if is_open(types, stream) {
+        let lanes = &mut types[type_of(stream)];
+        lanes.set(index_of(stream), setting);
+    }
+}
+
+#[inline(always)]
+pub(super) fn has(types: &[SendLanes; 4], stream: StreamId, task: Task) -> bool {
+    let lanes = &types[type_of(stream)];
+    lanes.has(index_of(stream), task)
 }
 
 #[inline(always)]

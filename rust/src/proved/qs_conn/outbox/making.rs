@@ -1,14 +1,22 @@
 // Made from crates/qs_conn/src/outbox/making.rt by rust/erase; not edited by hand.
 use crate::shim::Vec;
 
-use super::Outbox;
-use super::halves::{half_of, is_open};
+use super::halves::half_of;
+use super::{Outbox, halves};
 use crate::proved::qs_conn::piece_room::PieceRoom;
-use crate::proved::qs_conn::places::{index_of, type_of};
-use crate::proved::qs_conn::send_lanes::{SendLanes, Sent};
+use crate::proved::qs_conn::send_lanes::{SendLanes, Setting};
+use crate::proved::qs_conn::send_marks::{Moves, Task};
 use crate::proved::qs_ranges::NoMemory;
 use crate::proved::qs_send::{Chunk, Item, Piece, Records};
 use crate::proved::qs_wire::StreamId;
+
+#[derive(Clone, Copy)]
+pub(crate) struct Sent {
+    pub(crate) moved: u64,
+    pub(crate) is_done: bool,
+    /// Then the chunk brought it to no limit, so it needn't be looked at for STREAM_DATA_BLOCKED.
+    pub(crate) is_free: bool,
+}
 
 impl Outbox {
     /// Before the packet is filled, so that a refusal changes nothing.
@@ -49,9 +57,7 @@ impl Outbox {
 
     #[inline]
     pub(crate) fn put_chunk(&mut self, stream: StreamId, chunk: Chunk) -> Sent {
-        let lanes = &mut self.types[type_of(stream)];
-        let index = index_of(stream);
-        let sent = lanes.sent(index, chunk);
+        let sent = send(&mut self.types, stream, chunk);
         self.sent += sent.moved;
         hold(&mut self.pending, Piece::Data { stream, chunk });
         self.spare -= 1;
@@ -90,17 +96,25 @@ impl Outbox {
     }
 }
 
-// The half's state depends on it (RFC 9000, section 3.1).
-fn note_told(types: &mut [SendLanes; 4], item: &Item) {
-    if let Item::StreamDataBlocked { stream, .. } = *item {
-        note_blocked(types, stream);
+// One that is over has no chunk that is due.
+#[inline]
+fn send(types: &mut [SendLanes; 4], stream: StreamId, chunk: Chunk) -> Sent {
+    let (moved, is_free) = halves::edit(types, stream, (0, false), Moves::Sent, |half| {
+        let before = half.sent_end();
+        half.sent(chunk);
+        (half.sent_end() - before, half.written() <= half.limit())
+    });
+    Sent {
+        moved,
+        is_done: !halves::has(types, stream, Task::Bytes),
+        is_free: is_free || moved == 0,
     }
 }
 
-fn note_blocked(types: &mut [SendLanes; 4], stream: StreamId) {
-    if is_open(types, stream) {
-        let lanes = &mut types[type_of(stream)];
-        lanes.note_blocked(index_of(stream));
+// The half's state depends on it (RFC 9000, section 3.1).
+fn note_told(types: &mut [SendLanes; 4], item: &Item) {
+    if let Item::StreamDataBlocked { stream, .. } = *item {
+        halves::set(types, stream, Setting::Blocked);
     }
 }
 

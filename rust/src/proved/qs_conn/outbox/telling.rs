@@ -48,6 +48,18 @@ impl Outbox {
         Some(limit)
     }
 
+    /// Whether the last bytes that were written, so many, brought it there.
+    #[inline]
+    pub(crate) fn is_blocked_by(&self, stream: StreamId, count: usize) -> bool {
+        let Some(limit) = self.blocked_at(stream) else {
+            return false;
+        };
+        let Some(half) = self.half(stream) else {
+            return false;
+        };
+        half.written() - limit <= count as u64
+    }
+
     #[inline]
     pub(crate) fn limit_of(&self, stream: StreamId) -> Option<u64> {
         let half = self.half(stream)?;

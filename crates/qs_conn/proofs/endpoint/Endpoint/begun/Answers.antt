@@ -16,14 +16,14 @@ use Rattle.qs_machine.specs.Standing.{KeepsCredit}
 use Rattle.qs_machine.specs.Outgoing.{Outgoing, no_packets, sent_sum}
 use Rattle.qs_conn.specs.declared.by_dir.ByDir.{ByDir}
 use Rattle.qs_conn.specs.Middle.{IsKept}
-use Rattle.qs_conn.specs.declared.carried.Carried.{Carried}
+use Rattle.qs_conn.specs.declared.due.Due.{Due}
 use Rattle.qs_conn.specs.OwnCarried.{Kept}
-use Rattle.qs_conn.proofs.Carrieds.{carried_none, own_new}
+use Rattle.qs_conn.proofs.DuePackets.{due_none, nothing_put}
+use Rattle.qs_conn.proofs.Owns.{own_new}
 use Rattle.qs_conn.proofs.Cores.{fit_new}
 use Rattle.qs_conn.proofs.Stages.{no_sum, no_runs}
 use Rattle.qs_conn.proofs.AckRuns.{idle_new}
-use Rattle.qs_conn.specs.Untold.{TellsAt, SendTells}
-use Rattle.qs_conn.proofs.Untolds.{told_none}
+use Rattle.qs_conn.specs.Due.{packets_of}
 use Rattle.qs_machine.proofs.Counts.{new_ends_sound}
 use Rattle.qs_conn.proofs.endpoint.Endpoint.begun.Goals as goal
 
@@ -37,7 +37,7 @@ all_true true true true h = record { first = refl; second = refl; third = refl }
 all_true _ _ _ h = absurd (search (rules, h))
 
 -- a new end
-kept_new : (role : Role) (s : Settings) (tuned : Tuning) (p : PeerLimits) (wanted : ByDir (Option ℕ)) (o : Outgoing) (recvs : Tables RecvLane) (ins outs : Tables Bool) (t : Carried) (xs : Kept) (done : NumberSet) → wide_setup_fault s p ≡ None → o ≡ no_packets → recvs ≡ no_streams → done ≡ set.empty → t ≡ record { stops = no_streams; limits = no_streams; resets = no_streams; blocks = no_streams } → xs ≡ replicate 6 None
+kept_new : (role : Role) (s : Settings) (tuned : Tuning) (p : PeerLimits) (wanted : ByDir (Option ℕ)) (o : Outgoing) (recvs : Tables RecvLane) (t : Due) (xs : Kept) (done : NumberSet) → wide_setup_fault s p ≡ None → o ≡ no_packets → recvs ≡ no_streams → done ≡ set.empty → xs ≡ replicate 6 None
     → IsKept
     (record {
       limits = record {
@@ -55,14 +55,12 @@ kept_new : (role : Role) (s : Settings) (tuned : Tuning) (p : PeerLimits) (wante
       };
       outbox = o;
       recvs = recvs;
-      untold_recvs = ins;
-      untold_sends = outs;
-      carried = t;
+      due = t;
       own = xs;
       ended = record { bidi = 0; uni = 0 };
     })
     p done false false None
-kept_new role s tuned p wanted o recvs ins outs t xs done is empty none no_numbers no_marks no_values =
+kept_new role s tuned p wanted o recvs t xs done is empty none no_numbers no_values =
     let h = all_true (are_in_wide_range s) (are_spellable p) (are_countable p) is in
     let in_range = h.first in
     let spellable = h.second in
@@ -83,9 +81,7 @@ kept_new role s tuned p wanted o recvs ins outs t xs done is empty none no_numbe
           };
           credit = omega (arith, sum);
           counts = fit_new role s recvs o.sends in_range none;
-          told_in = told_none (TellsAt role s) recvs _ _ ins none;
-          told_out = told_none SendTells o.sends _ _ outs (ap (λ (x : Outgoing). x.sends) empty);
-          carried = carried_none recvs o.sends o.outstanding t none (ap (λ (x : Outgoing). x.sends) empty) (ap (λ (x : Outgoing). x.outstanding) empty) no_marks;
+          due = due_none role s recvs o.sends (packets_of o) t none (ap (λ (x : Outgoing). x.sends) empty) (nothing_put o empty);
           own = own_new _ o.outstanding xs (ap (λ (x : Outgoing). x.outstanding) empty) no_values;
         };
         idle = idle_new o empty;
@@ -98,4 +94,4 @@ kept_new role s tuned p wanted o recvs ins outs t xs done is empty none no_numbe
     }
 
 pub invariant_of-result : goal.invariant_of-result
-invariant_of-result c = rw (c.new.ensures, c.new-2.ensures, c.new-3.ensures, c.new-11.ensures) (search (rules, kept_new))
+invariant_of-result c = rw (c.new.ensures, c.new-2.ensures, c.new-3.ensures, c.new-9.ensures) (search (rules, kept_new))

@@ -1,5 +1,5 @@
 use Rattle.std.proofs.Common.{◌≡◌, ℕ, Option, inr, is_some, arith, length, refl, sym, ap, ◌∙◌, subst, take, ◌%◌}
-use Rattle.qs_recv.specs.Lane.{take_stream, RecvLane}
+use Rattle.qs_recv.specs.Lane.{RecvLane}
 use Rattle.qs_recv.specs.declared.credit.Share.TheVariants.{Half}
 use Rattle.qs_machine.specs.Tables.{Tables, table, with_table, lookup}
 use Rattle.qs_machine.specs.Ends.{End}
@@ -8,16 +8,15 @@ use Rattle.qs_machine.specs.Memory.{HasNews}
 use Rattle.qs_machine.specs.Standing.{IsInCredit}
 use Rattle.qs_machine.specs.Sums.{tally_on}
 use Rattle.qs_machine.specs.Outgoing.{Outgoing, AreOfOpen, sent_sum}
-use Rattle.qs_conn.proofs.Cores.{fit_recvs, fit_streamed, closed_counted, kept_moved, rest_recvs, told_streamed}
+use Rattle.qs_conn.proofs.Cores.{fit_recvs, fit_streamed, closed_counted, kept_moved, rest_recvs, due_streamed}
 use Rattle.qs_conn.proofs.MadePackets.{may_recount}
 use Rattle.qs_conn.specs.Ended.{AreAllCounted, IsToldOfEnd}
-use Rattle.qs_conn.proofs.Carrieds.{carried_recv, carried_closed, peer_outstanding}
+use Rattle.qs_conn.proofs.Dues.{due_closed}
+use Rattle.qs_conn.proofs.DuePackets.{packets_at, due_before}
 use Rattle.qs_conn.proofs.AckRuns.{idle_with}
 use Rattle.qs_machine.proofs.Taken.{in_there, stream_in, stream_checked, stream_unchanged, stream_sound, sends_back, recvs_back, tally_back, restored_out, peer_none, peer_lost, peer_unsent, back_sound}
-use Rattle.qs_conn.specs.Carried.{AreCarried}
+use Rattle.qs_conn.specs.Due.{AreDue, packets_of}
 use Rattle.qs_conn.specs.OwnCarried.{AreOwn}
-use Rattle.qs_conn.specs.Untold.{AreTold, TellsAt, SendTells}
-use Rattle.qs_conn.proofs.Untolds.{told_closed}
 use Rattle.qs_machine.specs.Asking.{kept_on}
 use Rattle.qs_conn.specs.Promised.{promised_on}
 use Rattle.qs_conn.proofs.Tasks.{peer_unwritten}
@@ -51,10 +50,8 @@ invariant_of-self c =
     let sound : IsInCredit c.args.self.now = subst (λ (k : End). IsInCredit k) c.self.view_is was.core.sound in
     let back = recvs_back c.args.self.now _ c.args.stream c.count-recvs.result c.close_to-in-Err.new.self opened (c.count-recvs.ensures ∙ ap (λ (e : End). length (table e.recvs (c.args.stream % 4))) c.self.view_is) (c.close_to-in-Err.ensures ∙ ap (λ (t : Tables RecvLane). with_table t (c.args.stream % 4) (take c.count-recvs.result (table t (c.args.stream % 4)))) c.in-Err.ensures.err) in
     let sends = sends_back c.args.self.now _ c.args.stream c.count-sends.result c.close_to.new.self.sends opened (c.count-sends.ensures ∙ ap (λ (e : End). length (table e.sends (c.args.stream % 4))) c.self.view_is) (ap (λ (x : Outgoing). x.sends) c.close_to.ensures) in
-    let outs = ap (λ (k : End). k.outstanding) opened ∙ peer_outstanding c.args.self.now c.args.stream in
-    let was_carried : AreCarried c.args.self.now.recvs c.args.self.now.sends c.args.self.now.outstanding c.self.inside.core.carried = subst (λ (k : End). AreCarried k.recvs k.sends k.outstanding c.self.inside.core.carried) c.self.view_is was.core.carried in
-    let before : AreCarried c.close_to-in-Err.new.self c.close_to.new.self.sends core.outbox.outstanding c.self.inside.core.carried = rw (back, sends, outs) was_carried in
-    let tells = TellsAt core.limits.role core.limits.settings in
+    let was_due : AreDue c.args.self.now.role c.args.self.now.settings c.args.self.now.recvs c.args.self.now.sends (packets_at c.args.self.now) c.self.inside.core.due = subst (λ (k : End). AreDue k.role k.settings k.recvs k.sends (packets_at k) c.self.inside.core.due) c.self.view_is was.core.due in
+    let before : AreDue core.limits.role core.limits.settings c.close_to-in-Err.new.self c.close_to.new.self.sends (packets_of core.outbox) c.self.inside.core.due = due_before c.args.self.now _ c.args.stream c.close_to-in-Err.new.self c.close_to.new.self.sends c.self.inside.core.due opened back sends was_due in
     let sum = ap (λ (x : Outgoing). sent_sum x.sends) c.close_to.ensures ∙ peer_unsent c.args.self.now _ c.args.stream c.count-sends.result opened (c.count-sends.ensures ∙ ap (λ (e : End). length (table e.sends (c.args.stream % 4))) c.self.view_is) in
     kept_moved _ _ _ _ _ _ c.self-2.invariant _
     (record {
@@ -64,13 +61,9 @@ invariant_of-self c =
         credit = omega (arith, sum, credit);
         counts = fit_recvs _ _ _ _ _ _ _ h.core.counts _ _ _ (closed_counted c.args.self.now _ c.args.stream _ _ c.self.inside.core.ended _ opened back sends (subst (λ (k : End). AreAllCounted k.role k.recvs k.sends c.self.inside.core.ended) c.self.view_is was.core.counts.counted) h.core.counts.counted)
             (subst (λ (t : Tables RecvLane). (n : ℕ) → IsToldOfEnd (lookup t n)) (sym back) (subst (λ (k : End). (n : ℕ) → IsToldOfEnd (lookup k.recvs n)) c.self.view_is was.core.counts.told));
-        told_in = subst (λ (x : Outgoing). AreTold tells c.close_to-in-Err.new.self x.outstanding x.acked core.untold_recvs) (sym c.close_to.ensures)
-            (told_closed tells core.recvs core.outbox.outstanding core.outbox.acked core.untold_recvs h.core.told_in c.take_stream.new.self c.close_to-in-Err.new.self c.args.stream c.count-recvs.result c.in-Err.ensures.err c.close_to-in-Err.ensures);
-        told_out = subst (λ (x : Outgoing). AreTold SendTells x.sends x.outstanding x.acked core.untold_sends) (sym c.close_to.ensures)
-            (told_closed SendTells core.outbox.sends core.outbox.outstanding core.outbox.acked core.untold_sends h.core.told_out core.outbox.sends _ c.args.stream c.count-sends.result refl refl);
-        carried = subst (λ (x : Outgoing). AreCarried c.close_to-in-Err.new.self x.sends x.outstanding core.carried) (sym c.close_to.ensures)
-            (carried_closed core.recvs core.outbox.sends core.outbox.outstanding core.carried h.core.carried c.take_stream.new.self c.close_to-in-Err.new.self _ c.args.stream c.count-recvs.result c.count-sends.result c.in-Err.ensures.err c.close_to-in-Err.ensures refl
-            c.self.inside.core.carried (subst (λ (x : Outgoing). AreCarried c.close_to-in-Err.new.self x.sends core.outbox.outstanding c.self.inside.core.carried) c.close_to.ensures before));
+        due = subst (λ (x : Outgoing). AreDue core.limits.role core.limits.settings c.close_to-in-Err.new.self x.sends (packets_of x) core.due) (sym c.close_to.ensures)
+            (due_closed h.core.due c.take_stream.new.self c.close_to-in-Err.new.self _ c.args.stream c.count-recvs.result c.count-sends.result c.in-Err.ensures.err c.close_to-in-Err.ensures refl
+            c.self.inside.core.due (subst (λ (x : Outgoing). AreDue core.limits.role core.limits.settings c.close_to-in-Err.new.self x.sends (packets_of core.outbox) c.self.inside.core.due) c.close_to.ensures before));
         own = subst (λ (x : Outgoing). AreOwn core.limits x.outstanding core.own) (sym c.close_to.ensures) h.core.own;
       };
       idle = idle_with core.outbox _ _ c.close_to.ensures h.idle;
@@ -103,11 +96,10 @@ invariant_of-self-2 c =
     let sound : IsInCredit c.args.self.now = subst (λ (k : End). IsInCredit k) c.self.view_is c.self.invariant.rest.core.sound in
     let checked = stream_checked c.args.self.now _ c.args.stream c.args.offset c.args.bytes.now c.args.fin c.requires.passed opened in
     kept_moved _ _ _ _ _ _ c.self-2.invariant _
-    (rest_recvs core h c.take_stream.new.self core.untold_recvs c.recount.new.self core.carried
+    (rest_recvs core h c.take_stream.new.self c.recount.new.self core.due
     (stream_sound c.args.self.now _ c.args.stream c.args.offset c.args.bytes.now c.args.fin c.take_stream.new.self sound c.requires.passed opened after)
     (fit_streamed _ _ _ _ _ _ _ h.core.counts _ _ h.core.sound _ c.args.stream _ _ _ _ c.is_over-was.result c.is_over-is.result checked after c.is_over-was.ensures.value c.is_over-is.ensures.value (c.recount.ensures (may_recount _ _ _ _ _ _ h.core.counts.counted c.is_over-was.ensures.value c.is_over-was.ensures.few)))
-    (told_streamed core.limits.role core.limits.settings core.recvs core.outbox.outstanding core.outbox.acked core.untold_recvs h.core.told_in c.take_stream.new.self c.args.stream _ _ h.core.sound c.args.offset c.args.bytes.now c.args.fin checked after)
-    (carried_recv core.recvs core.outbox.sends core.outbox.outstanding core.carried h.core.carried c.take_stream.new.self c.args.stream (λ l. take_stream l c.args.offset c.args.bytes.now c.args.fin) after (λ l. record { limit = refl; stop = λ v e. e })))
+    (due_streamed h.core.due _ _ h.core.sound c.take_stream.new.self c.args.stream c.args.offset c.args.bytes.now c.args.fin checked after))
 
 pub returns-in-Err-clause-asks : goal.returns-in-Err-clause-asks
 returns-in-Err-clause-asks c =

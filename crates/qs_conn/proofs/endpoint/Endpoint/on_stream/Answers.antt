@@ -1,11 +1,9 @@
-use Rattle.std.proofs.Common.{refl, ap, sym, ◌∙◌, is_some, subst}
-use Rattle.qs_recv.specs.Lane.{take_stream}
+use Rattle.std.proofs.Common.{ap, sym, ◌∙◌, is_some, subst}
 use Rattle.qs_machine.specs.Tables.{lookup}
 use Rattle.qs_machine.specs.Ends.{End}
 use Rattle.qs_machine.specs.Standing.{IsInCredit}
 use Rattle.qs_machine.proofs.Taken.{in_there, stream_in, stream_checked, stream_unchanged, stream_sound}
-use Rattle.qs_conn.proofs.Cores.{told_streamed, kept_next, rest_recvs, plain_next, fit_plain}
-use Rattle.qs_conn.proofs.Carrieds.{carried_recv}
+use Rattle.qs_conn.proofs.Cores.{due_streamed, kept_next, rest_recvs, plain_next, fit_plain}
 use Rattle.qs_conn.proofs.endpoint.Endpoint.on_stream.Goals as goal
 
 pub take_stream-requires-clause-open : goal.take_stream-requires-clause-open
@@ -36,9 +34,8 @@ invariant_of-self-then-is_plain c =
     let sound : IsInCredit c.args.self.now = subst (λ (e : End). IsInCredit e) c.self.view_is h.core.sound in
     let checked = stream_checked c.args.self.now _ c.args.stream c.args.offset c.args.bytes.now c.args.fin c.requires.passed opened in
     kept_next _ _ _ _ _ _ k _ _
-    (rest_recvs core h c.take_stream.new.self core.untold_recvs core.ended core.carried
+    (rest_recvs core h c.take_stream.new.self core.ended core.due
     (stream_sound c.args.self.now _ c.args.stream c.args.offset c.args.bytes.now c.args.fin c.take_stream.new.self sound c.requires.passed opened after)
     (fit_plain core.recvs c.take_stream.new.self c.args.stream c.args.offset c.args.bytes.now c.args.fin _ found lane after _ _ _ _ _ _ h.core.counts _ _ h.core.sound checked)
-    (told_streamed core.limits.role core.limits.settings core.recvs core.outbox.outstanding core.outbox.acked core.untold_recvs h.core.told_in c.take_stream.new.self c.args.stream _ _ h.core.sound c.args.offset c.args.bytes.now c.args.fin checked after)
-    (carried_recv core.recvs core.outbox.sends core.outbox.outstanding core.carried h.core.carried c.take_stream.new.self c.args.stream (λ l. take_stream l c.args.offset c.args.bytes.now c.args.fin) after (λ l. record { limit = refl; stop = λ v e. e })))
+    (due_streamed h.core.due _ _ h.core.sound c.take_stream.new.self c.args.stream c.args.offset c.args.bytes.now c.args.fin checked after))
     (plain_next core.recvs c.take_stream.new.self c.args.stream c.args.offset c.args.bytes.now c.args.fin _ found lane after _ _ _ _ _ _ _ _ k.settled)

@@ -12,9 +12,9 @@ use Rattle.qs_machine.proofs.CallsSound.{keeps_settle}
 use Rattle.qs_machine.proofs.Rising.{next_limit_grows}
 use Rattle.qs_conn.proofs.Cores.{kept_next, fit_settled}
 use Rattle.qs_conn.specs.Filling.{present_of}
-use Rattle.qs_conn.specs.Untold.{TellsAt}
-use Rattle.qs_conn.proofs.Carrieds.{carried_raised, own_risen}
-use Rattle.qs_conn.proofs.Untolds.{told_each}
+use Rattle.qs_conn.specs.Due.{packets_of}
+use Rattle.qs_conn.proofs.Dues.{due_raised}
+use Rattle.qs_conn.proofs.Owns.{own_risen}
 use Rattle.qs_calls.specs.declared.settings.Settings.{Settings}
 use Rattle.qs_calls.specs.declared.settings.Tuning.{Tuning}
 use Rattle.qs_machine.specs.Ends.{End, Present}
@@ -93,10 +93,8 @@ invariant_of-self c =
         };
         credit = h.credit;
         counts = fit_settled _ _ _ _ _ _ _ h.counts limits.tuning (present_of limits) _ _ _ c.raise_all.ensures.after c.next_count.ensures c.next_count-2.ensures;
-        told_in = told_each (TellsAt limits.role limits.settings) core.recvs core.outbox.outstanding core.outbox.acked core.untold_recvs h.told_in raise c.raise_all.new.self c.raise_all.new.untold c.raise_all.ensures.after c.raise_all.ensures.marks c.raise_all.ensures.marked;
-        told_out = h.told_out;
+        due = due_raised h.due c.raise_all.new.self c.raise_all.new.limits c.raise_all.ensures.after (c.raise_all.ensures.marked limits.role limits.settings (packets_of core.outbox) h.due.limits);
         own = own_risen limits core.outbox.outstanding core.own h.own _ (subst (λ k. limits.granted ≤ k) (sym limit) (next_limit_grows limits.granted (total taken core.recvs) limits.conn_window limits.tuning.credit_step)) (omega (arith, c.next_count.ensures)) (omega (arith, c.next_count-2.ensures)) (omega arith) (omega arith) (omega arith);
-        carried = carried_raised core.recvs core.outbox.sends core.outbox.outstanding core.carried h.carried c.raise_all.new.self c.raise_all.new.carried c.raise_all.ensures.after (c.raise_all.ensures.exact core.outbox.outstanding h.carried.limits);
       };
       idle = k.rest.idle;
     })

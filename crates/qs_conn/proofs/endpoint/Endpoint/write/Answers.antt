@@ -1,20 +1,21 @@
-use Rattle.std.proofs.Common.{sym, subst, ◌∙◌, arith}
-use Rattle.qs_machine.specs.Outgoing.{Outgoing}
-use Rattle.qs_conn.specs.Middle.{IsKept}
-use Rattle.qs_conn.proofs.Cores.{kept_outbox, rest_written, none_written}
+use Rattle.std.proofs.Common.{◌≡◌, ℕ, List, length, take, sym, ◌∙◌, arith}
+use Rattle.std.proofs.lemmas.Bool.Decides.{nat_tests}
+use Rattle.std.proofs.lemmas.List.{length-take}
+use Rattle.qs_machine.specs.Sums.{or_none}
+use Rattle.qs_machine.specs.Tables.{lookup}
+use Rattle.qs_send.specs.Lane.{SendLane, accepted}
+use Rattle.qs_conn.proofs.Cores.{kept_outbox, rest_written}
 use Rattle.qs_conn.proofs.Hearing.{write_short}
 use Rattle.qs_conn.proofs.endpoint.Endpoint.write.Goals as goal
+
+written_len : (l : SendLane) (bytes : List ℕ) (n : ℕ) → n ≡ accepted l (length bytes) → length (take n bytes) ≡ n
+written_len l bytes n is = grind (arith, nat_tests, length-take)
 
 pub invariant_of-self : goal.invariant_of-self
 invariant_of-self c =
     let core = c.self.inside.core in
-    kept_outbox core _ _ _ _ _ c.self.invariant _ _ (rest_written core c.self.invariant.rest c.args.stream _ _ _ c.in-Ok.ensures.accepted.0 c.in-Ok.ensures.accepted.2 c.look_blocked.ensures.more c.look_blocked.ensures.marked)
-
-pub invariant_of-self-else-count-gt0 : goal.invariant_of-self-else-count-gt0
-invariant_of-self-else-count-gt0 c =
-    let core = c.self.inside.core in
-    subst (λ (o : Outgoing). IsKept (record core { outbox = o }) c.self.inside.peer c.self.inside.done c.self.inside.is_settled c.self.inside.ack_due c.self.inside.closed)
-    (sym (none_written c.args.stream c.in-Ok.count _ core.outbox c.write.new.self (let none = c.if-count-gt0.false in omega (arith, none)) c.in-Ok.ensures.accepted.2)) c.self.invariant
+    rw c.note_written.ensures.same
+    (kept_outbox core _ _ _ _ _ c.self.invariant _ _ (rest_written core c.self.invariant.rest c.args.stream c.in-Ok.count _ _ _ c.in-Ok.ensures.accepted.0 c.in-Ok.ensures.accepted.2 (written_len (or_none (lookup core.outbox.sends c.args.stream)) c.offered-bytes.result.now c.in-Ok.count c.in-Ok.ensures.accepted.1) c.note_written.ensures.noted))
 
 pub returns-in-Err : goal.returns-in-Err
 returns-in-Err c =

@@ -1,7 +1,7 @@
 use Rattle.std.proofs.Common.{refl, Err, rules, sym, ◌∙◌}
 use Rattle.qs_ranges.specs.declared.NoMemory.{NoMemory}
 use Rattle.qs_conn.specs.Runs.{Loses}
-use Rattle.qs_conn.proofs.Cores.{rest_lost, rest_marked}
+use Rattle.qs_conn.proofs.Cores.{rest_lost}
 use Rattle.qs_conn.proofs.AckRuns.{loses_stop, loses_more}
 use Rattle.qs_conn.proofs.middle.Core.lose_pieces.Goals as goal
 
@@ -10,14 +10,11 @@ loop-piece-preserved c =
     let before = c.loop-piece.invariant in
     let first = sym c.first.ensures ∙ c.in-Some.is in
     record {
-      rest = rw c.drop_carried.ensures (rest_lost c.loop-piece.self before.rest c.args.number c.in-Some.piece c.lose_first.new.self c.look_again.new.recvs c.look_again.new.sends first c.in_ok-lose_first.ensures.ok c.look_again.ensures.recvs c.look_again.ensures.sends c.lose_first.ensures.idle c.learn_apart.ensures _ refl);
-      streams = rw c.drop_carried.ensures (record { limits = before.streams.limits; recvs = before.streams.recvs });
-      ended = rw c.drop_carried.ensures before.ended;
-      onward = rw c.drop_carried.ensures (λ result new h. before.onward result new (loses_more c.args.number c.loop-piece.self.outbox c.lose_first.new.self new c.in-Some.piece result first c.in_ok-lose_first.ensures.ok h));
+      rest = rw c.note_lost.ensures (rest_lost c.loop-piece.self before.rest c.args.number c.in-Some.piece c.lose_first.new.self first c.in_ok-lose_first.ensures.ok c.lose_first.ensures.idle c.learn_apart.ensures _ refl);
+      streams = rw c.note_lost.ensures (record { limits = before.streams.limits; recvs = before.streams.recvs });
+      ended = rw c.note_lost.ensures before.ended;
+      onward = rw c.note_lost.ensures (λ result new h. before.onward result new (loses_more c.args.number c.loop-piece.self.outbox c.lose_first.new.self new c.in-Some.piece result first c.in_ok-lose_first.ensures.ok h));
     }
-
-pub returns-in_err-lose_first-clause-rest : goal.returns-in_err-lose_first-clause-rest
-returns-in_err-lose_first-clause-rest c = rest_marked c.loop-piece.self c.loop-piece.invariant.rest c.in-Some.piece c.lose_first.new.self c.look_again.new.recvs c.look_again.new.sends c.in_err-lose_first.ensures.err c.look_again.ensures.recvs c.look_again.ensures.sends
 
 pub returns-in_err-lose_first-clause-step : goal.returns-in_err-lose_first-clause-step
 returns-in_err-lose_first-clause-step c =

@@ -1,28 +1,31 @@
-use Rattle.std.proofs.Common.{◌≡◌, ◌+◌, ◌≤◌, ◌-◌, ℕ, Bool, false, List, Some, length, take, arith, refl, sym, ap, subst, ◌∙◌}
+use Rattle.std.proofs.Common.{◌≡◌, ◌+◌, ◌≤◌, ◌-◌, ℕ, Bool, true, false, List, length, take, arith, refl, sym, ap, subst, ◌∙◌}
 use Rattle.qs_send.specs.Lane.{bytes_of}
 use Rattle.qs_send.specs.declared.parts.Chunk.{Chunk}
-use Rattle.qs_machine.specs.Tables.{Tables, lookup}
+use Rattle.qs_machine.specs.Tables.{lookup}
 use Rattle.qs_machine.specs.Outgoing.{Outgoing, IsBlockedAt, chunk_put, sent_sum}
 use Rattle.qs_machine.specs.Sums.{or_none}
 use Rattle.qs_machine.specs.Due.{StreamGoes}
 use Rattle.qs_conn.specs.declared.middle.Core.{Core}
 use Rattle.qs_conn.specs.Filling.{end_by, HasSpare, LeavesRest}
 use Rattle.qs_conn.specs.Middle.{FillsOn}
-use Rattle.qs_conn.specs.Untold.{HasMore}
+use Rattle.qs_conn.specs.declared.due.Due.{Due}
+use Rattle.qs_conn.specs.Due.{IsNotedBlock}
+use Rattle.qs_conn.specs.Tasks.{IsFree, IsShort}
 use Rattle.qs_conn.proofs.Flows.{Allowed, found_allowed, chunking_begins, chunking_put, chunking_done, may_go, sum_within, sum_small, still_open, flow_few, flow_ends, cut_part, flow_capped, flow_cut}
 use Rattle.qs_conn.proofs.Cores.{core_chunk, fills_same, fills_on, fills_outbox}
-use Rattle.qs_conn.proofs.Hearing.{no_goes, done_quiet, not_blocked}
+use Rattle.qs_conn.proofs.Hearing.{no_goes, done_quiet}
 use Rattle.qs_conn.proofs.MadePackets.{chunk_spare, chunk_memory}
 use Rattle.qs_conn.proofs.middle.Core.put_chunks.Goals as goal
 
 -- a chunk went in, behind what was there before
-fills_chunk : (a c : Core) (xs ys zs : List ℕ) (i j k n : ℕ) (chunk : Chunk) (left fresh : ℕ) (o : Outgoing) (marks : Tables Bool) → FillsOn a xs i c ys j 0 → Allowed c.outbox n left fresh chunk → fresh ≡ c.limits.known_data - sent_sum c.outbox.sends
-    → o ≡ chunk_put n chunk c.outbox → length (bytes_of (or_none (lookup c.outbox.sends n)) chunk) ≡ chunk.len → HasMore c.untold_sends marks → ((m : ℕ) → IsBlockedAt (lookup o.sends n) m → lookup marks n ≡ Some false → ⊥)
-    → k ≤ length zs → (HasSpare (length ys) j c.outbox.spare → HasSpare (length zs) k o.spare) → LeavesRest j ys k zs → length zs ≡ length ys → FillsOn a xs i (record c { outbox = o; untold_sends = marks }) zs k 0
-fills_chunk a c xs ys zs i j k n chunk left fresh o marks filled may is put count more marked within spare rest room =
+fills_chunk : (a c : Core) (xs ys zs : List ℕ) (i j k n : ℕ) (chunk : Chunk) (left fresh : ℕ) (o : Outgoing) (t : Due) (free : Bool) → FillsOn a xs i c ys j 0 → Allowed c.outbox n left fresh chunk → fresh ≡ c.limits.known_data - sent_sum c.outbox.sends
+    → o ≡ chunk_put n chunk c.outbox → length (bytes_of (or_none (lookup c.outbox.sends n)) chunk) ≡ chunk.len → (free ≡ true → IsFree c.outbox n chunk) → (free ≡ false → IsShort c.outbox n) → (free ≡ true → t ≡ c.due) → (free ≡ false → IsNotedBlock (IsBlockedAt (lookup o.sends n)) n c.due t)
+    → k ≤ length zs → (HasSpare (length ys) j c.outbox.spare → HasSpare (length zs) k o.spare) → LeavesRest j ys k zs → length zs ≡ length ys → FillsOn a xs i (record c { outbox = o; due = t }) zs k 0
+fills_chunk a c xs ys zs i j k n chunk left fresh o t free filled may is put count at_free at_short same noted within spare rest room =
     let credit = sum_within c.outbox n chunk left fresh c.limits.known_data may is filled.filling.core.credit in
-    let core = core_chunk c filled.filling.core n chunk (bytes_of (or_none (lookup c.outbox.sends n)) chunk) o marks put count credit more marked in
-    fills_on a c (record c { outbox = o; untold_sends = marks }) xs ys zs i j k 0 0 filled (fills_outbox c o marks c.carried c.own ys zs j k 0 core within (λ own. chunk_memory c n chunk left fresh may is o marks (length ys) j (length zs) k own spare) rest room)
+    let (half, has, _) = may in
+    let core = core_chunk c filled.filling.core n chunk (bytes_of (or_none (lookup c.outbox.sends n)) chunk) o half t free put count credit has at_free at_short same noted in
+    fills_on a c (record c { outbox = o; due = t }) xs ys zs i j k 0 0 filled (fills_outbox c o t c.own ys zs j k 0 core within (λ own. chunk_memory c n chunk left fresh may is o t (length ys) j (length zs) k own spare) rest room)
 
 pub loop-chunk-init : goal.loop-chunk-init
 loop-chunk-init c =
@@ -57,8 +60,8 @@ loop-chunk-preserved c =
           c.in-Some.ensures put.outbox l.invariant.filled.filling.within (at ∙ sym l.invariant.filled.room) refl l.invariant.fresh put.count (omega (arith, c.if-chunk-quota.false)) put.text (l.invariant.chunking around first wish room old e asked at on f);
       is_open = rw put.outbox (still_open l.self.outbox c.args.stream c.in-Some.ensures.0 c.in-Some.chunk c.in-Some.ensures.1);
       fresh = ap (λ k. l.self.limits.known_data - k) c.sent_sum-in-Some.ensures.value;
-      filled = fills_chunk _ l.self _ l.out c.put_chunk-put.new.out _ l.len c.put_chunk-put.result.len c.args.stream c.in-Some.chunk _ l.fresh c.put_chunk-put.new.outbox c.look_unless_free.new.marks
-          l.invariant.filled (found_allowed _ _ _ _ _ c.in-Some.ensures) l.invariant.fresh put.outbox put.count c.look_unless_free.ensures.more c.look_unless_free.ensures.marked put.within put.spare put.rest put.room;
+      filled = fills_chunk _ l.self _ l.out c.put_chunk-put.new.out _ l.len c.put_chunk-put.result.len c.args.stream c.in-Some.chunk _ l.fresh c.put_chunk-put.new.outbox c.look_unless_free-in-Some.new.due c.put_chunk-put.result.is_free
+          l.invariant.filled (found_allowed _ _ _ _ _ c.in-Some.ensures) l.invariant.fresh put.outbox put.count put.free put.held c.look_unless_free-in-Some.ensures.free c.look_unless_free-in-Some.ensures.noted put.within put.spare put.rest put.room;
     }
 
 pub returns-then-out-len-lt-LEAST_STREAM_FRAME-clause-flow : goal.returns-then-out-len-lt-LEAST_STREAM_FRAME-clause-flow
@@ -75,8 +78,8 @@ returns-then-out-len-lt-LEAST_STREAM_FRAME-clause-filled c =
     let l = c.loop-chunk in
     let put = c.put_chunk-put.ensures in
     rw c.full_at-then-out-len-lt-LEAST_STREAM_FRAME.ensures
-    (fills_chunk _ l.self _ l.out c.put_chunk-put.new.out _ l.len c.put_chunk-put.result.len c.args.stream c.in-Some.chunk _ l.fresh c.put_chunk-put.new.outbox c.look_unless_free.new.marks
-    l.invariant.filled (found_allowed _ _ _ _ _ c.in-Some.ensures) l.invariant.fresh put.outbox put.count c.look_unless_free.ensures.more c.look_unless_free.ensures.marked put.within put.spare put.rest put.room)
+    (fills_chunk _ l.self _ l.out c.put_chunk-put.new.out _ l.len c.put_chunk-put.result.len c.args.stream c.in-Some.chunk _ l.fresh c.put_chunk-put.new.outbox c.look_unless_free-in-Some.new.due c.put_chunk-put.result.is_free
+    l.invariant.filled (found_allowed _ _ _ _ _ c.in-Some.ensures) l.invariant.fresh put.outbox put.count put.free put.held c.look_unless_free-in-Some.ensures.free c.look_unless_free-in-Some.ensures.noted put.within put.spare put.rest put.room)
 
 -- the stream is done
 
@@ -91,18 +94,12 @@ returns-then-put-clause-flow c = λ around first wish room old e asked at on f.
     chunking_done wish room old _ _ _ around first n more (subst (λ x. StreamGoes (end_by l.self.limits l.self.recvs x e) n → ⊥) (sym put.outbox)
     (no_goes (chunk_put n c.in-Some.chunk l.self.outbox) n (done_quiet l.self.outbox n s c.in-Some.chunk h next.allowed.chunk (put.done c.if-put.true)) l.self.limits l.self.recvs e))
 
-pub look_unless_free-requires : goal.look_unless_free-requires
-look_unless_free-requires c = λ free.
-    let (s, h, (next, has)) = c.in-Some.ensures in
-    subst (λ x. (m : ℕ) → IsBlockedAt (lookup x.sends c.args.stream) m → ⊥) (sym c.put_chunk-put.ensures.outbox)
-    (not_blocked c.loop-chunk.self.outbox c.args.stream s c.in-Some.chunk h next.allowed.chunk (c.put_chunk-put.ensures.free free))
-
 pub returns-then-put-clause-filled : goal.returns-then-put-clause-filled
 returns-then-put-clause-filled c =
     let l = c.loop-chunk in
     let put = c.put_chunk-put.ensures in
-    fills_chunk _ l.self _ l.out c.put_chunk-put.new.out _ l.len c.put_chunk-put.result.len c.args.stream c.in-Some.chunk _ l.fresh c.put_chunk-put.new.outbox c.look_unless_free.new.marks
-    l.invariant.filled (found_allowed _ _ _ _ _ c.in-Some.ensures) l.invariant.fresh put.outbox put.count c.look_unless_free.ensures.more c.look_unless_free.ensures.marked put.within put.spare put.rest put.room
+    fills_chunk _ l.self _ l.out c.put_chunk-put.new.out _ l.len c.put_chunk-put.result.len c.args.stream c.in-Some.chunk _ l.fresh c.put_chunk-put.new.outbox c.look_unless_free-in-Some.new.due c.put_chunk-put.result.is_free
+    l.invariant.filled (found_allowed _ _ _ _ _ c.in-Some.ensures) l.invariant.fresh put.outbox put.count put.free put.held c.look_unless_free-in-Some.ensures.free c.look_unless_free-in-Some.ensures.noted put.within put.spare put.rest put.room
 
 pub returns-clause-flow : goal.returns-clause-flow
 returns-clause-flow c = λ around first wish room old e asked at on f.
@@ -152,5 +149,5 @@ returns-then-chunk-quota-clause-filled c =
     let put = c.put_chunk-cut.ensures in
     let part = cut_part l.self.outbox c.args.stream c.in-Some.chunk c.cut_to-part.result _ _ l.quota c.in-Some.ensures c.cut_to-part.ensures (omega (arith, c.if-quota-eq0.false)) c.if-chunk-quota.true in
     rw c.full_at-then-chunk-quota.ensures
-    (fills_chunk _ l.self _ l.out c.put_chunk-cut.new.out _ l.len c.put_chunk-cut.result.len c.args.stream c.cut_to-part.result _ l.fresh c.put_chunk-cut.new.outbox c.look_blocked.new.self
-    l.invariant.filled part l.invariant.fresh put.outbox put.count c.look_blocked.ensures.more c.look_blocked.ensures.marked put.within put.spare put.rest put.room)
+    (fills_chunk _ l.self _ l.out c.put_chunk-cut.new.out _ l.len c.put_chunk-cut.result.len c.args.stream c.cut_to-part.result _ l.fresh c.put_chunk-cut.new.outbox c.look_unless_free.new.due c.put_chunk-cut.result.is_free
+    l.invariant.filled part l.invariant.fresh put.outbox put.count put.free put.held c.look_unless_free.ensures.free c.look_unless_free.ensures.noted put.within put.spare put.rest put.room)

@@ -1,7 +1,10 @@
-use Rattle.std.proofs.Common.{◌≡◌, ◌+◌, ◌∙◌, arith, sym, ap, subst, length, take, rules}
+use Rattle.std.proofs.Common.{◌≡◌, ◌+◌, ◌∙◌, arith, sym, ap, refl, subst, length, take, rules}
 use Rattle.qs_conn.specs.Middle.{HasMemory, own_items, end_of}
-use Rattle.qs_conn.specs.Filling.{and_slot, and_kind, and_below}
-use Rattle.qs_conn.proofs.Cores.{fills_same, fills_on, fills_within, fills_marks}
+use Rattle.qs_conn.specs.Filling.{slot_at, and_slot, and_kind, and_below}
+use Rattle.qs_conn.proofs.Cores.{core_cleared, fills_same, fills_on, fills_within, fills_marks}
+use Rattle.qs_conn.proofs.Owns.{marked_at}
+use Rattle.qs_machine.specs.Ends.{End}
+use Rattle.qs_conn.specs.Marks.{IsIdle}
 use Rattle.qs_conn.proofs.Stages.{passed_below, adds_first, adds_below, adds_kind, adds_next}
 use Rattle.qs_conn.proofs.MadePackets.{stage_more, stage_full, own_kind}
 use Rattle.qs_conn.proofs.middle.Core.put_marked.Goals as goal
@@ -18,13 +21,13 @@ loop-stream-preserved c =
           let before = and_below passed c.args.kind stream in
           let here = stage_more wish room old (take c.loop-stream.packet.len c.loop-stream.out) (end_of c.loop-stream.self e) c.loop-stream.packet.is_full (and_below passed c.args.kind c.loop-stream.from) before (adds_below _ passed c.args.kind c.loop-stream.from stream (λ n. c.in-Some.ensures.idle n e)) (c.loop-stream.invariant.stage wish room old e passed at kinds start) in
           let after = c.put_slot-packet.ensures.stage wish room old e before (at ∙ sym c.loop-stream.invariant.filled.room) (passed_below passed c.args.kind stream c.at.result c.at.ensures kinds) here in
-          rw c.unmark_told.ensures.same
-          (stage_more wish room old (take c.put_slot-packet.result.len c.put_slot-packet.new.out) (end_of c.put_slot-packet.new.self e) c.put_slot-packet.result.is_full (and_slot before c.at.result) (and_below passed c.args.kind (c.value-from.result + 1))
-          (adds_next _ passed c.args.kind stream c.value-from.result c.at.result c.at.ensures c.value-from.ensures.same) after));
+          stage_more wish room old (take c.put_slot-packet.result.len c.put_slot-packet.new.out) (end_of c.put_slot-packet.new.self e) c.put_slot-packet.result.is_full (and_slot before c.at.result) (and_below passed c.args.kind (c.value-from.result + 1))
+          (adds_next _ passed c.args.kind stream c.value-from.result c.at.result c.at.ensures c.value-from.ensures.same) after);
       filled = (
           let none = ap own_items c.at.ensures ∙ own_kind c.args.kind stream in
           let put = fills_within _ _ _ _ _ _ _ 0 (omega (arith, none)) (fills_on _ _ _ _ _ _ _ _ _ _ _ c.loop-stream.invariant.filled c.put_slot-packet.ensures.filled) in
-          fills_on _ _ _ _ _ _ _ _ _ 0 0 put (fills_marks _ _ _ _ _ _ put.filling c.unmark_told.ensures.core c.unmark_told.ensures.same));
+          let idle : (e : End) → IsIdle (end_of c.put_slot-packet.new.self e) (slot_at c.args.kind stream) = rw c.at.ensures at c.put_slot-packet.ensures.idle c.if-packet-2.false in
+          fills_on _ _ _ _ _ _ _ _ _ 0 0 put (fills_marks _ _ _ _ _ put.filling (core_cleared _ put.filling.core c.args.kind stream _ c.clear.ensures idle) refl));
     }
 
 pub returns-clause-stage : goal.returns-clause-stage
@@ -50,5 +53,5 @@ put_slot-packet-requires-clause-memory c =
     let none : own_items c.at.result ≡ 0 = ap own_items c.at.ensures ∙ own_kind c.args.kind c.in-Some.stream in
     subst (λ k. HasMemory c.loop-stream.self (length c.loop-stream.out) c.loop-stream.packet.len k) (sym none) (c.loop-stream.invariant.filled.memory 0 c.requires.memory)
 
-pub unmark_told-requires : goal.unmark_told-requires
-unmark_told-requires c = c.put_slot-packet.ensures.filled.filling.core
+pub put_slot-packet-requires-clause-marked : goal.put_slot-packet-requires-clause-marked
+put_slot-packet-requires-clause-marked c = rw c.at.ensures (marked_at c.loop-stream.self.due c.args.kind c.in-Some.stream c.in-Some.ensures.marked)

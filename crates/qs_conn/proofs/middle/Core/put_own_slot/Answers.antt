@@ -4,6 +4,7 @@ use Rattle.qs_conn.proofs.Cores.{fills_within}
 use Rattle.qs_conn.specs.Filling.{and_slot}
 use Rattle.qs_conn.proofs.Stages.{adds_slot}
 use Rattle.qs_conn.proofs.MadePackets.{stage_more, memory_less, own_most}
+use Rattle.qs_conn.proofs.Owns.{none_marked}
 use Rattle.qs_conn.proofs.middle.Core.put_own_slot.Goals as goal
 
 pub returns-then-has_told-clause-stage : goal.returns-then-has_told-clause-stage
@@ -15,3 +16,6 @@ put_slot-requires-clause-memory c = memory_less _ _ _ 1 _ (own_most c.args.slot)
 
 pub returns-clause-filled : goal.returns-clause-filled
 returns-clause-filled c = fills_within _ _ _ _ _ _ _ _ (own_most c.args.slot) c.put_slot.ensures.filled
+
+pub put_slot-requires-clause-marked : goal.put_slot-requires-clause-marked
+put_slot-requires-clause-marked c = none_marked c.args.self.now.due c.args.slot c.requires.own

@@ -1,22 +1,14 @@
-use Rattle.std.proofs.Common.{◌∙◌, refl, rules}
-use Rattle.std.proofs.lemmas.List.{length-set}
+use Rattle.std.proofs.Common.{refl}
 use Rattle.qs_send.specs.Lane.{buffer_lane, after_buffer}
 use Rattle.qs_machine.specs.Sums.{tables_of}
 use Rattle.qs_machine.proofs.LostSent.{sent_buffer}
-use Rattle.qs_machine.proofs.TableEdits.{open_there, updated_is}
 use Rattle.qs_conn.proofs.Outboxes.{half_there, half_step, box_buffered}
 use Rattle.qs_conn.proofs.outbox.Outbox.set_buffer.Goals as goal
-
-pub set_buffer-requires : goal.set_buffer-requires
-set_buffer-requires c = search (rules, open_there, half_there)
 
 pub invariant_of-self : goal.invariant_of-self
 invariant_of-self c =
     let there = half_there _ c.args.self.now (tables_of c.self.inside.types) c.args.stream c.self.view_is refl c.requires in
-    let is = updated_is c.self.inside.types c.args.stream _ _ _ _ (λ s. after_buffer s c.args.size) c.self.invariant.2 c.type_of.ensures.value c.index_of.ensures.value c.set_buffer.ensures in
-    (box_buffered _ _ _ _ _ _ _ _ _ c.self.invariant.0 c.args.stream c.args.size there is, sent_buffer (tables_of c.self.inside.types) _ _ c.self.invariant.1 c.args.stream c.args.size is, length-set _ _ _ ∙ c.self.invariant.2)
+    (box_buffered _ _ _ _ _ _ _ _ _ c.self.invariant.0 c.args.stream c.args.size there c.set.ensures.after, sent_buffer (tables_of c.self.inside.types) _ _ c.self.invariant.1 c.args.stream c.args.size c.set.ensures.after, c.set.ensures.len)
 
 pub returns : goal.returns
-returns c =
-    half_step _ c.args.self.now (tables_of c.self.inside.types) _ c.args.stream (λ s. after_buffer s c.args.size) (λ l. buffer_lane l c.args.size) c.self.view_is refl (λ s. refl)
-    (updated_is c.self.inside.types c.args.stream _ _ _ _ (λ s. after_buffer s c.args.size) c.self.invariant.2 c.type_of.ensures.value c.index_of.ensures.value c.set_buffer.ensures)
+returns c = half_step _ c.args.self.now (tables_of c.self.inside.types) _ c.args.stream (λ s. after_buffer s c.args.size) (λ l. buffer_lane l c.args.size) c.self.view_is refl (λ s. refl) c.set.ensures.after

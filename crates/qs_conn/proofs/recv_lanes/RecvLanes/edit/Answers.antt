@@ -22,4 +22,4 @@ pub returns : goal.returns
 returns g c =
     let there : c.args.index < length c.self.inside.halves.items = rw c.self.view_is c.requires.there in
     let at = c.index_mut-half.ensures.value ∙ get_or_default c.self.inside.halves.items c.args.index c.index_mut-half.result.now (new_lane 0 Half) there in
-    rw (← c.self.view_is) (record { lane = c.f-answer.new.arg2; left = record { half = _; into = _; shows = (at, refl); left = _; met = c.f-answer.ensures; leaves = (refl, refl) }; is = refl })
+    rw (← c.self.view_is) (record { now = c.f-answer.new.arg2; left = record { half = _; into = _; shows = (at, refl); left = _; met = c.f-answer.ensures; leaves = (refl, refl) }; is = refl })

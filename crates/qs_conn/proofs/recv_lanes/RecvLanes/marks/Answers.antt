@@ -1,9 +1,8 @@
-use Rattle.std.proofs.Common.{◌∙◌, rules}
-use Rattle.std.proofs.lemmas.List.{length-map}
+use Rattle.std.proofs.Common.{◌∙◌}
+use Rattle.qs_conn.proofs.Marked.{recv_mark_is}
 use Rattle.qs_conn.proofs.recv_lanes.RecvLanes.marks.Goals as goal
 
-pub returns-clause-value : goal.returns-clause-value
-returns-clause-value c = rw (← c.self.view_is) (c.marks.ensures ∙ c.self.invariant.noted c.args.task)
-
-pub returns-clause-few : goal.returns-clause-few
-returns-clause-few c = search (rules, length-map)
+pub returns : goal.returns
+returns c =
+    let are = c.self.invariant.noted c.args.task in
+    rw (← c.self.view_is, c.marks.ensures) (record { value = λ i. are.tell i ∙ recv_mark_is c.args.task c.self.inside.halves.items i; few = are.few })

@@ -1,7 +1,6 @@
 use Rattle.std.proofs.Common.{sym, rules}
-use Rattle.qs_conn.proofs.LaneEdits.{raised, none_marked, none_raised}
-use Rattle.qs_conn.proofs.Carrieds.{stays_of}
-use Rattle.qs_conn.proofs.Untolds.{has_same}
+use Rattle.qs_conn.proofs.LaneEdits.{raised, none_raised}
+use Rattle.qs_conn.proofs.DuePackets.{stays_of}
 use Rattle.qs_conn.proofs.recv_lanes.RecvLanes.raise_all.Goals as goal
 
 pub invariant_of-self : goal.invariant_of-self
@@ -17,13 +16,4 @@ pub returns-then-is_none-clause-after : goal.returns-then-is_none-clause-after
 returns-then-is_none-clause-after c = rw (← c.self.view_is) (sym (none_raised c.self.inside.touched c.self.inside.halves.items c.self.invariant.settled (c.is_none.ensures c.if-is_none.true)))
 
 pub returns-then-is_none-clause-marked : goal.returns-then-is_none-clause-marked
-returns-then-is_none-clause-marked c = rw (← c.self.view_is) (search (rules, none_marked))
-
-pub returns-then-is_none-clause-marks : goal.returns-then-is_none-clause-marks
-returns-then-is_none-clause-marks c = has_same c.args.untold.now
-
-pub returns-then-is_none-clause-exact : goal.returns-then-is_none-clause-exact
-returns-then-is_none-clause-exact c = search (rules, stays_of)
-
-pub returns-clause-exact : goal.returns-clause-exact
-returns-clause-exact c = rw (← c.self.view_is) c.raise_touched.ensures.exact
+returns-then-is_none-clause-marked c = search (rules, stays_of)

@@ -1,18 +1,10 @@
 use Rattle.std.proofs.Common.{rules}
 use Rattle.qs_machine.proofs.TableEdits.{each_is}
-use Rattle.qs_conn.proofs.LaneEdits.{raised_tables}
-use Rattle.qs_conn.proofs.Carrieds.{stays_four}
-use Rattle.qs_conn.proofs.Untolds.{has_twice}
+use Rattle.qs_conn.proofs.DuePackets.{stays_four}
 use Rattle.qs_conn.proofs.recv_tables.RecvTables.raise_all.Goals as goal
 
 pub returns-clause-after : goal.returns-clause-after
 returns-clause-after c = rw (← c.self.view_is) (search (rules, each_is))
 
-pub returns-clause-marks : goal.returns-clause-marks
-returns-clause-marks c = search (rules, has_twice)
-
 pub returns-clause-marked : goal.returns-clause-marked
-returns-clause-marked c = rw (← c.self.view_is) (search (rules, raised_tables))
-
-pub returns-clause-exact : goal.returns-clause-exact
-returns-clause-exact c = rw (← c.self.view_is) (search (rules, stays_four))
+returns-clause-marked c = rw (← c.self.view_is) (search (rules, stays_four))

@@ -10,5 +10,5 @@ returns c =
     let is = c.self.invariant.1 q.task in
     record {
       least = rw (← c.self.view_is) (sought_least q c.self.inside.halves ms c.args.told.now is c.args.from c.next_sought.result c.next_sought.ensures);
-      small = found_small (has q.task) c.self.inside.halves ms is c.self.invariant.0 c.next_sought.result (λ n found. (sought_mark q.is_told ms c.args.told.now n (c.next_sought.ensures.found n found).1).0);
+      small = found_small (has q.task) c.self.inside.halves ms is c.next_sought.result (λ n found. (sought_mark q.is_told ms c.args.told.now n (c.next_sought.ensures.found n found).1).0);
     }

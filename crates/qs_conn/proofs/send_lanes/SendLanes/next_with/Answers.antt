@@ -8,5 +8,5 @@ returns c =
     let is = c.self.invariant.1 c.args.task in
     record {
       least = rw (← c.self.view_is) (marked_least (has c.args.task) c.self.inside.halves ms is c.args.from c.next.result c.next.ensures);
-      small = found_small (has c.args.task) c.self.inside.halves ms is c.self.invariant.0 c.next.result (λ n found. (c.next.ensures.found n found).1);
+      small = found_small (has c.args.task) c.self.inside.halves ms is c.next.result (λ n found. (c.next.ensures.found n found).1);
     }

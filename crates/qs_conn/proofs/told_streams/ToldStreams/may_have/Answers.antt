@@ -1,4 +1,4 @@
-use Rattle.qs_conn.specs.Untold.{IsUnmarked}
+use Rattle.qs_conn.specs.Marks.{IsUnmarked}
 use Rattle.qs_conn.proofs.Marked.{has_each, none_at}
 use Rattle.qs_conn.proofs.told_streams.ToldStreams.may_have.Goals as goal
 
