@@ -65,19 +65,19 @@ def today():
     return datetime.date.today().isoformat()
 
 
-def parts(begin, end):
-    """The page of results up to a mark, what stands between it and another one, and the page from that on."""
-    before, first, rest = RESULTS.read_text().partition(begin)
+def parts(begin, end, page=RESULTS):
+    """A page up to a mark, what stands between it and another one, and the page from that on."""
+    before, first, rest = page.read_text().partition(begin)
     inside, last, after = rest.partition(end)
     if not first or not last:
-        sys.exit(f"bench: {RESULTS} lacks one of its marks, {begin} and {end}")
+        sys.exit(f"bench: {page} lacks one of its marks, {begin} and {end}")
     return before + begin, inside, end + after
 
 
-def write(begin, end, text):
+def write(begin, end, text, page=RESULTS):
     """Puts a text between two marks."""
-    before, _old, after = parts(begin, end)
-    RESULTS.write_text(f"{before}\n\n{text}\n\n{after}")
+    before, _old, after = parts(begin, end, page)
+    page.write_text(f"{before}\n\n{text}\n\n{after}")
 
 
 def run(main):

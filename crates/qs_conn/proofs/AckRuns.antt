@@ -12,7 +12,7 @@ use Rattle.qs_calls.specs.declared.closing.Closed.{Closed}
 use Rattle.qs_machine.specs.Ends.{End, Records, AckedItems}
 use Rattle.qs_machine.specs.Owner.{first_refusal, refuse_if}
 use Rattle.qs_machine.specs.Making.{LoseStep, lose_refusal, losses}
-use Rattle.qs_machine.specs.Outgoing.{Outgoing, with_outgoing, with_sends, first_lost_out, no_packets, pieces_in, IsIdle, piece_acked_out, without_piece_out, first_acked_out, first_piece as first_outgoing, AreApartIn, acked_at as acked_outgoing}
+use Rattle.qs_machine.specs.Outgoing.{Outgoing, with_outgoing, with_sends, first_lost_out, no_packets, pieces_in, IsIdle, piece_acked_out, without_piece_out, first_acked_out, first_piece as first_outgoing, acked_at as acked_outgoing}
 use Rattle.qs_conn.specs.Runs.{losses_out, pieces_left, LosesBy, Loses, held_out, acks_out, AcksBy, AcksPacket, AreSameBelow, named_out, AcksNamed, AcksRanges, is_ahead, ahead_pieces, AcksAhead, AcksBoth, from_below}
 use Rattle.qs_machine.specs.Tables.{Tables}
 use Rattle.qs_send.specs.Lane.{SendLane}
@@ -40,14 +40,12 @@ use Rattle.std.proofs.lemmas.List.Elements.{All-nil, All-append, All-map, All-fr
 use Rattle.std.specs.Option.{IfSome}
 use Rattle.qs_conn.specs.NewlyTold.{gone_from, ahead_numbers, TellsAhead, TellsNamed}
 use Rattle.qs_conn.proofs.Untolds.{outstanding_acked}
-use Rattle.qs_machine.proofs.Apart.{apart_shorter}
 use Rattle.qs_conn.specs.declared.by_dir.ByDir.{ByDir}
 use Rattle.qs_conn.specs.declared.middle.Core.{Core}
 use Rattle.qs_conn.specs.Ended.{AreAllCounted, is_over, recounted}
 use Rattle.qs_conn.specs.Middle.{IsAtRest}
 use Rattle.qs_conn.specs.Rows.{AcksAlone, AcksDown, AcksRow, AcksFrom, MayRunOutAt, numbers_down}
 use Rattle.qs_conn.proofs.Cores.{piece_recounted, rest_acked}
-use Rattle.qs_conn.proofs.Outboxes.{short_at}
 
 -- Losses
 
@@ -653,19 +651,17 @@ module _ (n first : ℕ) where
   idle_alone : (k : ℕ) (o x : Outgoing) → AcksAlone n k o x → IsIdle o → IsIdle x
   idle_alone k o x h idle = grind (arith, nat_tests, get_other-without_first, none_some)
 
-  pub rest_row : (more : ℕ) (c : Core) (e : ByDir ℕ) (o : Outgoing) → IsAtRest c → AreApartIn c.outbox.outstanding → AcksDown n first more c.outbox o → AreAllCounted c.limits.role c.recvs o.sends e → IsAtRest (record c { outbox = o; ended = e })
-  rest_row zero c e o h apart (ch, alone, is) counted =
-      rest_acked c h false first (Data n ch) o e (ap first_outgoing alone) is counted (idle_alone first c.outbox o (ch, alone, is) h.idle) apart c.own refl
-  rest_row (suc more) c e o h apart (x, (ch, alone, is), down) counted =
+  pub rest_row : (more : ℕ) (c : Core) (e : ByDir ℕ) (o : Outgoing) → IsAtRest c → AcksDown n first more c.outbox o → AreAllCounted c.limits.role c.recvs o.sends e → IsAtRest (record c { outbox = o; ended = e })
+  rest_row zero c e o h (ch, alone, is) counted = rest_acked c h false first (Data n ch) o e (ap first_outgoing alone) is counted (idle_alone first c.outbox o (ch, alone, is) h.idle)
+  rest_row (suc more) c e o h (x, (ch, alone, is), down) counted =
       let k = first + suc more in
       let mid_ended = recounted n (is_over c.limits.role c.recvs c.outbox.sends n) (is_over c.limits.role c.recvs x.sends n) c.ended in
       let mid_counted = piece_recounted c.limits.role c.recvs false k n (Data n ch) c.outbox x c.ended mid_ended _ _ refl is h.core.counts.counted refl refl refl in
-      let mid = rest_acked c h false k (Data n ch) x mid_ended (ap first_outgoing alone) is mid_counted (idle_alone k c.outbox x (ch, alone, is) h.idle) apart c.own refl in
-      let short = short_at c.outbox.outstanding x.outstanding k (Data n ch) (ap first_outgoing alone) (ap (λ (y : Outgoing). y.outstanding) is) in
-      rest_row more (record c { outbox = x; ended = mid_ended }) e o mid (apart_shorter c.outbox.outstanding x.outstanding k (Data n ch) short apart) down counted
+      let mid = rest_acked c h false k (Data n ch) x mid_ended (ap first_outgoing alone) is mid_counted (idle_alone k c.outbox x (ch, alone, is) h.idle) in
+      rest_row more (record c { outbox = x; ended = mid_ended }) e o mid down counted
 
-pub rest_rowed : (n number first : ℕ) (c : Core) (e : ByDir ℕ) (o : Outgoing) → IsAtRest c → AreApartIn c.outbox.outstanding → AcksRow n number first c.outbox o → AreAllCounted c.limits.role c.recvs o.sends e → IsAtRest (record c { outbox = o; ended = e })
-rest_rowed n number first c e o h apart (more, count, down) counted = rest_row n first more c e o h apart down counted
+pub rest_rowed : (n number first : ℕ) (c : Core) (e : ByDir ℕ) (o : Outgoing) → IsAtRest c → AcksRow n number first c.outbox o → AreAllCounted c.limits.role c.recvs o.sends e → IsAtRest (record c { outbox = o; ended = e })
+rest_rowed n number first c e o h (more, count, down) counted = rest_row n first more c e o h down counted
 
 -- What is told
 

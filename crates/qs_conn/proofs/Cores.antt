@@ -63,7 +63,7 @@ use Rattle.qs_conn.proofs.Stages.{sum_lane, reset_sends, stop_sends, sum_piece, 
 use Rattle.qs_machine.proofs.CallsSound.{sound_read, sound_stop, sound_forget, sound_window, sound_set, grant_within, keeps_open}
 use Rattle.qs_conn.proofs.Dues.{IsCalmer, due_recv, due_stopped, due_discarded, due_windowed, due_send, due_written, due_sent, due_reset, due_chunk, due_placed, due_opened, allowed_keeps, reset_keeps, reset_same, stop_taken_keeps, stop_taken_same}
 use Rattle.qs_conn.proofs.DuePackets.{due_acked, due_lost, due_cleared, due_put}
-use Rattle.qs_conn.proofs.Owns.{own_risen, own_chunk, own_put, own_present, own_acked, own_lost}
+use Rattle.qs_conn.proofs.Owns.{own_risen, own_wanted, own_chunk, own_put, own_present, own_acked, own_lost}
 use Rattle.qs_conn.proofs.Rests.{rest_same, rest_on}
 use Rattle.qs_calls.specs.declared.settings.SetFault.TheVariants.{OutOfRange}
 use Rattle.qs_machine.specs.Owner.{first_refusal, refuse_if}
@@ -307,7 +307,7 @@ pub core_outbox : (c : Core) → IsCore c → (next spare : ℕ) (o : Outgoing) 
 core_outbox c h next spare o is = subst (λ (x : Outgoing). IsCore (record c { outbox = x })) (sym is) (record { sound = h.sound; fits = h.fits; credit = h.credit; counts = h.counts; due = h.due; own = h.own })
 
 -- the sending side, its counts and the marks change; the receiving halves and the limits stay
-core_out : (c : Core) (h : IsCore c) (o : Outgoing) (t : Due) (ys : Kept) (e : ByDir ℕ) → sent_sum o.sends ≤ c.limits.known_data → AreAllCounted c.limits.role c.recvs o.sends e → AreDue c.limits.role c.limits.settings c.recvs o.sends (packets_of o) t → AreOwn c.limits o.outstanding ys
+core_out : (c : Core) (h : IsCore c) (o : Outgoing) (t : Due) (ys : Kept) (e : ByDir ℕ) → sent_sum o.sends ≤ c.limits.known_data → AreAllCounted c.limits.role c.recvs o.sends e → AreDue c.limits.role c.limits.settings c.recvs o.sends (packets_of o) t → AreOwn c.limits (packets_of o) ys
     → IsCore (record c { outbox = o; due = t; own = ys; ended = e })
 core_out c h o t ys e credit counted due own = grind (arith, nat_tests)
 
@@ -435,7 +435,7 @@ module _ (c : Core) (h : IsAtRest c) where
           credit = omega (arith, credit, more);
           counts = core.counts;
           due = core.due;
-          own = own_risen c.limits c.outbox.outstanding c.own core.own _ (omega arith) (omega arith) (omega arith) more bidi_more uni_more;
+          own = own_risen c.limits (packets_of c.outbox) c.own core.own _ (omega arith) (omega arith) (omega arith) more bidi_more uni_more;
         };
         idle = h.idle;
       }
@@ -444,15 +444,14 @@ module _ (c : Core) (h : IsAtRest c) where
 
   -- the first piece of a packet is acknowledged, and the stream counted anew
   pub rest_acked : (late : Bool) (k : ℕ) (p : Piece) (o : Outgoing) (e : ByDir ℕ) → first_piece (fmap.get (held_out late c.outbox) k) ≡ Some p → o ≡ first_acked_out (acked_at late k p) c.outbox
-      → AreAllCounted c.limits.role c.recvs o.sends e → IsIdle o → AreApartIn c.outbox.outstanding → (ys : Kept) → ys ≡ (if late then c.own else own_left p c.own) → IsAtRest (record c { outbox = o; own = ys; ended = e })
-  rest_acked late k p o e first is counted idle apart ys values =
+      → AreAllCounted c.limits.role c.recvs o.sends e → IsIdle o → IsAtRest (record c { outbox = o; ended = e })
+  rest_acked late k p o e first is counted idle =
       let sum = ap (λ (x : Outgoing). sent_sum x.sends) is ∙ sum_piece p (without_piece_out late k c.outbox) in
       let credit = core.credit in
-      record { core = core_out c core o c.due ys e (omega (arith, sum, credit)) counted (due_acked c.outbox o core.due k p late first is) (own_acked late k p c.limits c.outbox o c.own ys core.own apart first is values); idle = idle }
+      record { core = core_out c core o c.due c.own e (omega (arith, sum, credit)) counted (due_acked c.outbox o core.due k p late first is) (own_acked k p c.limits c.outbox o c.own core.own late first is); idle = idle }
 
   -- a piece that changes no half is acknowledged
-  pub rest_acked_by : (late : Bool) (k : ℕ) (p : Piece) (o : Outgoing) → first_piece (fmap.get (held_out late c.outbox) k) ≡ Some p → half_of p ≡ None → o ≡ first_acked_out (acked_at late k p) c.outbox
-      → IsIdle o → AreApartIn c.outbox.outstanding → (ys : Kept) → ys ≡ (if late then c.own else own_left p c.own) → IsAtRest (record c { outbox = o; own = ys })
+  pub rest_acked_by : (late : Bool) (k : ℕ) (p : Piece) (o : Outgoing) → first_piece (fmap.get (held_out late c.outbox) k) ≡ Some p → half_of p ≡ None → o ≡ first_acked_out (acked_at late k p) c.outbox → IsIdle o → IsAtRest (record c { outbox = o })
   rest_acked_by late k p o first none ok idle =
       rest_acked late k p o c.ended first ok (subst (λ (t : Tables SendLane). AreAllCounted c.limits.role c.recvs t c.ended) (sym (ap (λ (x : Outgoing). x.sends) ok ∙ sends_stay late k p c.outbox none)) core.counts.counted) idle
 
@@ -475,7 +474,7 @@ module _ (c : Core) (h : IsCore c) where
   there = end_of c (new_end c.limits.role c.limits.settings c.limits.tuning (record { max_data = 0; bidi_local = 0; bidi_remote = 0; uni = 0; streams_bidi = 0; streams_uni = 0 }))
 
   -- a frame is put
-  core_put : (f : Seen) (o : Outgoing) → end_by c.limits c.recvs o there ≡ frame_put f there → sent_sum o.sends ≤ c.limits.known_data → (t : Due) → AreDue c.limits.role c.limits.settings c.recvs o.sends (packets_of o) t → (ys : Kept) → AreOwn c.limits o.outstanding ys → IsCore (record c { outbox = o; due = t; own = ys })
+  core_put : (f : Seen) (o : Outgoing) → end_by c.limits c.recvs o there ≡ frame_put f there → sent_sum o.sends ≤ c.limits.known_data → (t : Due) → AreDue c.limits.role c.limits.settings c.recvs o.sends (packets_of o) t → (ys : Kept) → AreOwn c.limits (packets_of o) ys → IsCore (record c { outbox = o; due = t; own = ys })
   core_put f o is credit t due ys values = core_out c h o t ys c.ended credit (subst (λ (x : End). AreAllCounted c.limits.role x.recvs x.sends c.ended) (sym is) (put_counted c.limits.role there f c.ended h.counts.counted)) due values
 
   -- an item went in, or didn't fit
@@ -487,7 +486,7 @@ module _ (c : Core) (h : IsCore c) where
       let credit = h.credit in
       subst (λ (x : Outgoing). IsCore (record c { outbox = x; due = item_marked i false c.due; own = own_with i c.own })) (sym out)
       (core_put (Control i) (item_put_out i c.outbox) (end_put c.limits c.recvs c.outbox there i) (omega (arith, sum, credit))
-      (item_marked i false c.due) (due_put c.limits c.recvs c.outbox e c.due h.due i current) (own_with i c.own) (own_put c.limits c.outbox.outstanding c.own h.own c.outbox.next i (λ own. own_present c.limits c.recvs c.outbox e i own current)))
+      (item_marked i false c.due) (due_put c.limits c.recvs c.outbox e c.due h.due i current) (own_with i c.own) (own_put c.limits (packets_of c.outbox) c.own h.own c.outbox.next i (λ own. own_present c.limits c.recvs c.outbox e i own current)))
 
   -- a chunk went in, and where it reached the stream's limit the stream has a mark
   pub core_chunk : (n : ℕ) (chunk : Chunk) (bytes : List ℕ) (o : Outgoing) (half : Sending) (t : Due) (free : Bool) → o ≡ chunk_put n chunk c.outbox → length bytes ≡ chunk.len → sent_sum (chunk_put n chunk c.outbox).sends ≤ c.limits.known_data → HasSending c.outbox n half
@@ -500,7 +499,7 @@ module _ (c : Core) (h : IsCore c) where
         λ on. subst (λ (x : SendLane). (x.written ≤ x.limit) ⊎ ((sent_lane x chunk).sent_end ≡ x.sent_end)) lane (at_free on half has),
         λ off. subst (λ (x : SendLane). x.sent_end < x.limit) lane (at_short off half has),
       ))) same (λ off. subst (λ (x : Outgoing). IsNotedBlock (IsBlockedAt (lookup x.sends n)) n c.due t) is (noted off)))
-      c.own (own_chunk c.limits c.outbox.outstanding c.own h.own c.outbox.next n chunk))
+      c.own (own_chunk c.limits (packets_of c.outbox) c.own h.own c.outbox.next n chunk))
 
   -- a half of which nothing is due has a mark no more
   pub core_cleared : (kind : Kind) (n : ℕ) (t : Due) → t ≡ kind_marked kind n false c.due → ((e : End) → IsIdleAt (end_of c e) (slot_at kind n)) → IsCore (record c { due = t })
@@ -617,8 +616,23 @@ module _ (c : Core) (peer : PeerLimits) (done : NumberSet) (is_settled due : Boo
   inside = k.rest.core
 
   keeps : (l : Limits) → KeepsCredit l.role l.settings (present_of l) c.recvs l.granted → LimitsFit l → sent_sum c.outbox.sends ≤ l.known_data → CountsFit l.role l.settings c.recvs c.outbox.sends c.ended l.granted_streams.bidi l.granted_streams.uni
-      → AreDue l.role l.settings c.recvs c.outbox.sends (packets_of c.outbox) c.due → AreOwn l c.outbox.outstanding c.own → Keeps l
+      → AreDue l.role l.settings c.recvs c.outbox.sends (packets_of c.outbox) c.due → AreOwn l (packets_of c.outbox) c.own → Keeps l
   keeps l sound fits credit counts due own = grind (arith, nat_tests)
+
+  -- the count at which an open was blocked
+  pub kept_wanted : (wanted : ByDir (Option ℕ)) → IsKept (record c { limits = record c.limits { wanted_streams = wanted } }) peer done is_settled due closed
+  kept_wanted wanted =
+      record {
+        rest = record {
+          core = record { sound = inside.sound; fits = record { granted = inside.fits.granted; granted_bidi = inside.fits.granted_bidi; granted_uni = inside.fits.granted_uni; known = inside.fits.known; bidi = inside.fits.bidi; uni = inside.fits.uni }; credit = inside.credit; counts = inside.counts; due = inside.due; own = own_wanted c.limits (packets_of c.outbox) c.own inside.own wanted };
+          idle = k.rest.idle;
+        };
+        peer_fits = k.peer_fits;
+        closing_fits = k.closing_fits;
+        few = k.few;
+        acks = k.acks;
+        settled = k.settled;
+      }
 
   -- the connection's window
   pub kept_window : (window paid : ℕ) (l : Limits) → is_settable (ConnWindow window) ≡ true → paid ≡ total taken c.recvs → l ≡ with_window window paid c.limits → Keeps l
@@ -627,7 +641,7 @@ module _ (c : Core) (peer : PeerLimits) (done : NumberSet) (is_settled due : Boo
       (keeps (with_window window (total taken c.recvs) c.limits) (sound_set (ConnWindow window) (end_with c.limits.role c.limits.settings (present_of c.limits) c.recvs c.limits.granted) (in_range (is_settable (ConnWindow window)) fits) inside.sound)
       (record { granted = limit_small c.limits.conn_window c.limits.granted (total taken c.recvs) window inside.fits.granted; granted_bidi = inside.fits.granted_bidi; granted_uni = inside.fits.granted_uni; known = inside.fits.known; bidi = inside.fits.bidi; uni = inside.fits.uni })
       inside.credit inside.counts inside.due
-      (own_risen c.limits c.outbox.outstanding c.own inside.own _ (limit_rises c.limits.conn_window c.limits.granted (total taken c.recvs) window) (omega arith) (omega arith) (omega arith) (omega arith) (omega arith))))
+      (own_risen c.limits (packets_of c.outbox) c.own inside.own _ (limit_rises c.limits.conn_window c.limits.granted (total taken c.recvs) window) (omega arith) (omega arith) (omega arith) (omega arith) (omega arith))))
 
   -- a direction's grant
   pub kept_grant : (dir : Dir) (streams over : ℕ) (l : Limits) → is_settable (Grant dir streams) ≡ true → l ≡ with_grant dir streams over c.limits → Keeps l
@@ -639,13 +653,13 @@ module _ (c : Core) (peer : PeerLimits) (done : NumberSet) (is_settled due : Boo
           keeps (with_grant Bidi streams over c.limits) (sound_set (Grant Bidi streams) (end_with c.limits.role c.limits.settings (present_of c.limits) c.recvs c.limits.granted) (in_range (is_settable (Grant Bidi streams)) fits) inside.sound)
           (record { granted = inside.fits.granted; granted_bidi = omega (arith, within, few_bidi c.limits.settings inside.sound.settings); granted_uni = inside.fits.granted_uni; known = inside.fits.known; bidi = inside.fits.bidi; uni = inside.fits.uni })
           inside.credit (record { counted = inside.counts.counted; told = inside.counts.told; bidi = within; uni = inside.counts.uni }) inside.due
-          (own_risen c.limits c.outbox.outstanding c.own inside.own _ (omega arith) (count_rises c.limits.grants.bidi c.limits.granted_streams.bidi c.limits.settings.lifetime_bidi over streams) (omega arith) (omega arith) (omega arith) (omega arith))
+          (own_risen c.limits (packets_of c.outbox) c.own inside.own _ (omega arith) (count_rises c.limits.grants.bidi c.limits.granted_streams.bidi c.limits.settings.lifetime_bidi over streams) (omega arith) (omega arith) (omega arith) (omega arith))
       go Uni fits =
           let within = grant_within c.limits.grants.uni c.limits.granted_streams.uni c.limits.settings.lifetime_uni over streams inside.counts.uni in
           keeps (with_grant Uni streams over c.limits) (sound_set (Grant Uni streams) (end_with c.limits.role c.limits.settings (present_of c.limits) c.recvs c.limits.granted) (in_range (is_settable (Grant Uni streams)) fits) inside.sound)
           (record { granted = inside.fits.granted; granted_bidi = inside.fits.granted_bidi; granted_uni = omega (arith, within, few_uni c.limits.settings inside.sound.settings); known = inside.fits.known; bidi = inside.fits.bidi; uni = inside.fits.uni })
           inside.credit (record { counted = inside.counts.counted; told = inside.counts.told; bidi = inside.counts.bidi; uni = within }) inside.due
-          (own_risen c.limits c.outbox.outstanding c.own inside.own _ (omega arith) (omega arith) (count_rises c.limits.grants.uni c.limits.granted_streams.uni c.limits.settings.lifetime_uni over streams) (omega arith) (omega arith) (omega arith))
+          (own_risen c.limits (packets_of c.outbox) c.own inside.own _ (omega arith) (omega arith) (count_rises c.limits.grants.uni c.limits.granted_streams.uni c.limits.settings.lifetime_uni over streams) (omega arith) (omega arith) (omega arith))
 
 -- ---- A frame on a stream of which nothing was told moves no limit and no count of streams.
 

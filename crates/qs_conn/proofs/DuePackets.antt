@@ -112,6 +112,26 @@ stop_still x a n v told = elim (stop_telling x) [
     itself : (j n : ℕ) → j ≡ n → eq_by_cmp nat_cmp n j ≡ true
     itself j n is = ap (eq_by_cmp nat_cmp n) is ∙ tied_itself n
 
+module _ (o : Outgoing) (k : ℕ) (x : Piece) where
+  -- the packets as it left its own
+  abbrev pub left_as : Bool → Packets
+  left_as late = record { out = if late then o.outstanding else without_first o.outstanding k (fmap.get o.outstanding k); lost = (if late then lost_less k o.lost else o.lost).pieces; acked = items_acked x o.acked }
+
+  pub left_is : (late : Bool) → packets_of (first_acked_out (acked_at late k x) o) ≡ left_as late
+  left_is late = go x
+    where
+      go : (y : Piece) → packets_of (first_acked_out (acked_at late k y) o) ≡ record (left_as late) { acked = items_acked y o.acked }
+      go (Data n c) = refl
+      go (Told i) = refl
+
+  pub out_less : (late : Bool) → first_piece (fmap.get (held_out late o) k) ≡ Some x → (y : Piece) → IsCarried (left_as late).out y → IsCarried o.outstanding y
+  out_less true at y out = out
+  out_less false at y out = carried_before o.outstanding _ k x (shortened_is o.outstanding k x at) y out
+
+  pub out_still : (late : Bool) → first_piece (fmap.get (held_out late o) k) ≡ Some x → (y : Piece) → IsCarried o.outstanding y → (y ≡ x) ⊎ IsCarried (left_as late).out y
+  out_still true at y out = inr out
+  out_still false at y out = carried_still o.outstanding _ k x (shortened_is o.outstanding k x at) y out
+
 module _ {r : Role} {s : Settings} {recvs : Tables RecvLane} (o new : Outgoing) {t : Due} (h : AreDue r s recvs o.sends (packets_of o) t) (k : ℕ) (x : Piece) where
   -- the halves as the piece is acknowledged
   due_noted : (late : Bool) → AreDue r s recvs (first_acked_out (acked_at late k x) o).sends (packets_of o) t
@@ -122,31 +142,12 @@ module _ {r : Role} {s : Settings} {recvs : Tables RecvLane} (o new : Outgoing) 
       go (Told (ResetStream n code size)) = due_send h _ n reset_acked_lane refl (λ l there. (record { told = λ v has. has; tells = λ m v tells. absurd (true≢false tells.1) }, record { told = λ v has. has; tells = λ m v tells. tells }))
       go (Told _) = h
 
-  -- the packets as it left its own
-  abbrev left_as : Bool → Packets
-  left_as late = record { out = if late then o.outstanding else without_first o.outstanding k (fmap.get o.outstanding k); lost = (if late then lost_less k o.lost else o.lost).pieces; acked = items_acked x o.acked }
-
-  left_is : (late : Bool) → packets_of (first_acked_out (acked_at late k x) o) ≡ left_as late
-  left_is late = go x
-    where
-      go : (y : Piece) → packets_of (first_acked_out (acked_at late k y) o) ≡ record (left_as late) { acked = items_acked y o.acked }
-      go (Data n c) = refl
-      go (Told i) = refl
-
   piece_put : (late : Bool) → first_piece (fmap.get (held_out late o) k) ≡ Some x → (i : Item) → Told i ≡ x → WasPut (packets_of o) i
   piece_put false at i is = inl (subst (IsCarried o.outstanding) (sym is) (first_is o.outstanding k x at))
   piece_put true at i is = inr (inl (subst (IsCarried o.lost.pieces) (sym is) (first_is o.lost.pieces k x at)))
 
-  out_less : (late : Bool) → first_piece (fmap.get (held_out late o) k) ≡ Some x → (y : Piece) → IsCarried (left_as late).out y → IsCarried o.outstanding y
-  out_less true at y out = out
-  out_less false at y out = carried_before o.outstanding _ k x (shortened_is o.outstanding k x at) y out
-
-  out_still : (late : Bool) → first_piece (fmap.get (held_out late o) k) ≡ Some x → (y : Piece) → IsCarried o.outstanding y → (y ≡ x) ⊎ IsCarried (left_as late).out y
-  out_still true at y out = inr out
-  out_still false at y out = carried_still o.outstanding _ k x (shortened_is o.outstanding k x at) y out
-
-  put_less : (late : Bool) → first_piece (fmap.get (held_out late o) k) ≡ Some x → (i : Item) → WasPut (left_as late) i → WasPut (packets_of o) i
-  put_less late at i (inl out) = inl (out_less late at (Told i) out)
+  put_less : (late : Bool) → first_piece (fmap.get (held_out late o) k) ≡ Some x → (i : Item) → WasPut (left_as o k x late) i → WasPut (packets_of o) i
+  put_less late at i (inl out) = inl (out_less o k x late at (Told i) out)
   put_less true at i (inr (inl lost)) = inr (inl (carried-without_first o.lost.pieces k (Told i) lost))
   put_less false at i (inr (inl lost)) = inr (inl lost)
   put_less late at i (inr (inr known)) = elim (known_is x o.acked i known) [ inl was ↦ inr (inr was) | inr is ↦ piece_put late at i is ]
@@ -154,22 +155,22 @@ module _ {r : Role} {s : Settings} {recvs : Tables RecvLane} (o new : Outgoing) 
   -- the first piece of a packet is acknowledged
   pub due_acked : (late : Bool) → first_piece (fmap.get (held_out late o) k) ≡ Some x → new ≡ first_acked_out (acked_at late k x) o → AreDue r s recvs new.sends (packets_of new) t
   due_acked late at is =
-      rw is (subst (λ q. AreDue r s recvs (first_acked_out (acked_at late k x) o).sends q t) (sym (left_is late))
-      (due_other (due_noted late) (left_as late) (put_less late at) (out_less late at)
+      rw is (subst (λ q. AreDue r s recvs (first_acked_out (acked_at late k x) o).sends q t) (sym (left_is o k x late))
+      (due_other (due_noted late) (left_as o k x late) (put_less late at) (out_less o k x late at)
       (λ n v l there tells told. elim told [
-        | inl out ↦ elim (out_still late at (Told (StopSending n v)) out) [ inl e ↦ inr (stop_still x o.acked n v (inl e)) | inr still ↦ inl still ]
+        | inl out ↦ elim (out_still o k x late at (Told (StopSending n v)) out) [ inl e ↦ inr (stop_still x o.acked n v (inl e)) | inr still ↦ inl still ]
         | inr noted ↦ inr (stop_still x o.acked n v (inr noted))
       ])
       (λ n v within told. (
       let is_still = limit_still x o.acked n v (λ w known. within w (inr (inr known))) (λ w e. within w (piece_put late at (MaxStreamData n w) (sym e))) in
-      elim told [ inl out ↦ elim (out_still late at (Told (MaxStreamData n v)) out) [ inl e ↦ inr (is_still (inl e)) | inr still ↦ inl still ] | inr noted ↦ inr (is_still (inr noted)) ]))
+      elim told [ inl out ↦ elim (out_still o k x late at (Told (MaxStreamData n v)) out) [ inl e ↦ inr (is_still (inl e)) | inr still ↦ inl still ] | inr noted ↦ inr (is_still (inr noted)) ]))
       (λ n v l there tells told. elim told [
-        | inl out ↦ elim (out_still late at (Told (reset_at n v)) out) [ inl e ↦ absurd (not_reset late n v l (sym e) there tells) | inr still ↦ inl still ]
+        | inl out ↦ elim (out_still o k x late at (Told (reset_at n v)) out) [ inl e ↦ absurd (not_reset late n v l (sym e) there tells) | inr still ↦ inl still ]
         | inr noted ↦ absurd noted
       ])
       (λ n v within told. (
       let is_still = block_still x o.acked n v (λ w known. within w (inr (inr known))) (λ w e. within w (piece_put late at (StreamDataBlocked n w) (sym e))) in
-      elim told [ inl out ↦ elim (out_still late at (Told (StreamDataBlocked n v)) out) [ inl e ↦ inr (is_still (inl e)) | inr still ↦ inl still ] | inr noted ↦ inr (is_still (inr noted)) ]))))
+      elim told [ inl out ↦ elim (out_still o k x late at (Told (StreamDataBlocked n v)) out) [ inl e ↦ inr (is_still (inl e)) | inr still ↦ inl still ] | inr noted ↦ inr (is_still (inr noted)) ]))))
     where
       -- a reset that is acknowledged isn't to be told
       not_reset : (late : Bool) (n : ℕ) (v : Reset) (l : SendLane) → x ≡ Told (reset_at n v) → lookup (first_acked_out (acked_at late k x) o).sends n ≡ Some l → TellsReset n l v → ⊥

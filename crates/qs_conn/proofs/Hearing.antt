@@ -16,9 +16,9 @@ use Rattle.qs_machine.specs.Heard.{is_told, Hearing, heard_opened, IsNews, IsNex
 use Rattle.qs_conn.specs.Marks.{is_marked, AreMarksFor, both, untold, AreEndsMarked, IsBefore, IsNextMark, IsUntoldOf, least_of, IsUntold}
 use Rattle.qs_conn.specs.Ended.{recv_over, send_over, IsToldOfEnd}
 use Rattle.qs_conn.specs.RecvTasks.{HasOne, HasNone, has_one}
-use Rattle.qs_conn.specs.Sending.{HasSent, IsDueOf, MayWrite, offered, let_go, front_of, credit_room, WasStopped, TakesAlone}
-use Rattle.qs_conn.proofs.Marked.{marked_below, both_self, told_of, next_self, waits, none_before, none_next, least_given, least_two, least_by, row_none, row_some, at_mark, mark_at, clear_next}
-use Rattle.qs_conn.proofs.Boths.{both_is, both_len, untold_is, untold_len}
+use Rattle.qs_conn.specs.Sending.{HasSent, IsDueOf, MayWrite, offered, let_go, front_of, credit_room, TakesAlone}
+use Rattle.qs_conn.proofs.Marked.{least_as, both_self, told_of, next_self, waits, none_before, none_next, least_given, least_two, least_by, row_none, row_some, at_mark, mark_at, clear_next}
+use Rattle.qs_conn.proofs.Boths.{both_is, untold_is}
 use Rattle.std.proofs.lemmas.Option.{none-some, same_Some}
 use Rattle.qs_wire.specs.Streams.{dir_of}
 use Rattle.qs_wire.specs.declared.stream_id.Dir.{Dir}
@@ -143,9 +143,6 @@ module _ (P : ℕ → Type 0) (told : Tables Bool) (k from start : ℕ) (a b : L
   module _ (index : ℕ) (h : IsNextMark (untold (both a b) (table told k)) start (Some index)) where
     pub none_between : (n : ℕ) → from ≤ n → n < index * 4 + k → IsUntoldOf P told k n → ⊥
     none_between n ge lt p = let kind = p.0 in unmarked_none n (h.unmarked (n / 4) (omega (arith, at, ge, kind, small)) (omega (arith, lt, kind, small))) p
-
-    pub found_below : index < length a
-    found_below = omega (arith, marked_below (untold (both a b) (table told k)) index (h.found index refl).1, untold_len (both a b) (table told k), both_len a b)
 
     pub found_from : from ≤ index * 4 + k
     found_from = omega (arith, (h.found index refl).0, at, small)
@@ -367,8 +364,8 @@ consume_refused e n most fault is = rw (recv_refusal_is (is_read_no_more e) e n 
 pub peek_refused : (e : End) (n : ℕ) (fault : UseFault) → Some fault ≡ no_receiver (is_read_no_more e) e n → IsPeeked e n (Err fault)
 peek_refused e n fault is = recv_refusal_is (is_read_no_more e) e n ∙ sym is
 
-pub peek_ok : (e : End) (n : ℕ) (peek : Peek) → no_receiver (is_read_no_more e) e n ≡ None → IsPeek (or_new (lookup e.recvs n) 0 Half) peek → IsPeeked e n (Ok peek)
-peek_ok e n peek none is = (recv_refusal_is (is_read_no_more e) e n ∙ none, or_new (lookup e.recvs n) 0 Half, receiver_there e n none, is)
+pub peek_ok : (e : End) (n : ℕ) (l : RecvLane) (peek : Peek) → no_receiver (is_read_no_more e) e n ≡ None → lookup e.recvs n ≡ Some l → IsPeek l peek → IsPeeked e n (Ok peek)
+peek_ok e n l peek none at is = (recv_refusal_is (is_read_no_more e) e n ∙ none, l, at, is)
 
 pub receiver_open : (e : End) (n : ℕ) → no_receiver (is_read_no_more e) e n ≡ None → is_some (lookup e.recvs n) ≡ true
 receiver_open e n none = ap is_some (receiver_there e n none)
@@ -634,9 +631,6 @@ least_opened e h =
 -- What a search for streams finds
 
 -- of two properties that are the same the least number is the same
-pub least_as : (P Q : ℕ → Type 0) (from : ℕ) (r : Option ℕ) → ((n : ℕ) → P n → Q n) → ((n : ℕ) → Q n → P n) → IsLeast P from r → IsLeast Q from r
-least_as P Q from r there back h = record { found = λ n is. (let f = h.found n is in (f.0, there n f.1)); least = λ n ge q. h.least n ge (back n q) }
-
 -- a half of which something holds, that holds of none that isn't there
 held_by : {L : Type 0} (P : Option L → Type 0) (Q : L → Type 0) → ((l : L) → P (Some l) → Q l) → (P None → ⊥) → (t : Tables L) (n : ℕ) → P (lookup t n) → IsHeld Q t n
 held_by {L} P Q holds none t n = go (lookup t n) refl
@@ -645,11 +639,11 @@ held_by {L} P Q holds none t n = go (lookup t n) refl
     go (Some l) at is = (l, at, holds l is)
     go None at is = absurd (none is)
 
-pub stopped_there : (t : Tables SendLane) (n : ℕ) → IsHeld WasStopped t n → is_some (stop_of (lookup t n)) ≡ true
+pub stopped_there : (t : Tables SendLane) (n : ℕ) → IsHeld (λ l. is_some l.stopped ≡ true) t n → is_some (stop_of (lookup t n)) ≡ true
 stopped_there t n (l, at, is) = rw at is
 
-pub stopped_back : (t : Tables SendLane) (n : ℕ) → is_some (stop_of (lookup t n)) ≡ true → IsHeld WasStopped t n
-stopped_back = held_by (λ x. is_some (stop_of x) ≡ true) WasStopped (λ l is. is) (λ is. true≢false (sym is))
+pub stopped_back : (t : Tables SendLane) (n : ℕ) → is_some (stop_of (lookup t n)) ≡ true → IsHeld (λ l. is_some l.stopped ≡ true) t n
+stopped_back = held_by (λ x. is_some (stop_of x) ≡ true) (λ l. is_some l.stopped ≡ true) (λ l is. is) (λ is. true≢false (sym is))
 
 readable_there : (t : Tables RecvLane) (n : ℕ) → has_one tasks.Readable (lookup t n) ≡ true → IsHeld (λ l. is_readable l ≡ true) t n
 readable_there = held_by (λ x. has_one tasks.Readable x ≡ true) (λ l. is_readable l ≡ true) (λ l is. is) (λ is. true≢false (sym is))
@@ -753,10 +747,10 @@ module _ (q : Search) (ls : List (List Sending)) (told : Tables Bool) (k from fi
   pub sought_some : (i : ℕ) → IsLeast (IsSoughtAt q (get_or ls k d) (table told k)) first (Some i) → IsLeast (IsSoughtOf q (tables_of ls) told k) from (Some (i * 4 + k))
   sought_some i = row_some (IsSought q (tables_of ls) told) (IsSoughtAt q (get_or ls k d) (table told k)) k from first small begin part_of i (stream_of i)
 
--- an answer about halves is one about their lanes
-pub lanes_sought : (q : Search) (Q : SendLane → Type 0) → ((s : Sending) → HasTask q.task s → Q s.lane) → ((s : Sending) → Q s.lane → HasTask q.task s) → (told : Tables Bool) (v o : Outgoing) (t : Tables Sending) (from : ℕ) (r : Option ℕ) → v ≡ o → lanes_of t ≡ v.sends
-    → IsLeast (IsSought q t told) from r → IsLeast (λ n. IsHeld Q o.sends n × (is_told told n ≡ q.is_told)) from r
-lanes_sought q Q to back told v o t from r same lanes h =
-    least_as (λ n. IsHeld (λ l. Q l × (is_told told n ≡ q.is_told)) o.sends n) (λ n. IsHeld Q o.sends n × (is_told told n ≡ q.is_told)) from r (λ n (l, at, (has, is)). ((l, at, has), is)) (λ n ((l, at, has), is). (l, at, (has, is)))
-    (lanes_least (λ n s. HasTask q.task s × (is_told told n ≡ q.is_told)) (λ n l. Q l × (is_told told n ≡ q.is_told)) v o t from r same lanes (λ n s is at p. (to s p.0, p.1)) (λ n s at p. (back s p.0, p.1))
+-- an answer about halves is one about their lanes, where these tell of the kind
+pub lanes_sought : (q : Search) (told : Tables Bool) (v o : Outgoing) (t : Tables Sending) (from : ℕ) (r : Option ℕ) → v ≡ o → lanes_of t ≡ v.sends → IsLeast (IsSought q t told) from r
+    → (p : SendLane → Bool) → ((s : Sending) → has q.task s ≡ p s.lane) → IsLeast (λ n. IsHeld (λ l. p l ≡ true) o.sends n × (is_told told n ≡ q.is_told)) from r
+lanes_sought q told v o t from r same lanes h p tells =
+    least_as (λ n. IsHeld (λ l. (p l ≡ true) × (is_told told n ≡ q.is_told)) o.sends n) (λ n. IsHeld (λ l. p l ≡ true) o.sends n × (is_told told n ≡ q.is_told)) from r (λ n (l, at, (has, is)). ((l, at, has), is)) (λ n ((l, at, has), is). (l, at, (has, is)))
+    (lanes_least (λ n s. HasTask q.task s × (is_told told n ≡ q.is_told)) (λ n l. (p l ≡ true) × (is_told told n ≡ q.is_told)) v o t from r same lanes (λ n s is at h. (sym (tells s) ∙ h.0, h.1)) (λ n s at h. (tells s ∙ h.0, h.1))
     (least_as (IsSought q t told) (λ n. IsHeld (λ s. HasTask q.task s × (is_told told n ≡ q.is_told)) t n) from r (λ n ((s, at, has), is). (s, at, (has, is))) (λ n (s, at, (has, is)). ((s, at, has), is)) h))

@@ -2,7 +2,7 @@
 use Rattle.std.specs.FinSet as set
 use Rattle.qs_conn.specs.declared.recv_marks.RecvTask.TheVariants as tasks
 use Rattle.std.proofs.lemmas.Bool.Decides.{nat_tests}
-use Rattle.std.proofs.Common.{◌≡◌, ℕ, zero, suc, ◌+◌, ◌-◌, ◌*◌, ◌/◌, ◌%◌, min, ◌<◌, ◌≤◌, ◌^◌, Bool, true, false, List, [], ◌∷◌, ◌++◌, map, length, get_or, replicate, Option, None, Some, slice_get, refl, sym, ap, ◌∙◌, subst, arith, inl, inr, set, Result, ◌⊎◌, Ok, Err, unwrap_or, not, ◌≢◌, ◌==◌, take, max, w64, ◌&&◌, ◌||◌, is_some}
+use Rattle.std.proofs.Common.{◌≡◌, ℕ, zero, suc, ◌+◌, ◌-◌, ◌*◌, ◌/◌, ◌%◌, min, ◌<◌, ◌≤◌, ◌^◌, Bool, true, false, List, [], ◌∷◌, ◌++◌, map, length, get_or, replicate, Option, None, Some, slice_get, refl, sym, ap, ◌∙◌, subst, arith, inl, inr, set, Result, ◌⊎◌, unwrap_or, not, ◌≢◌, ◌==◌, take, max, w64, ◌&&◌, ◌||◌, is_some}
 use Rattle.std.specs.List.{range_with_len}
 use Rattle.std.specs.Option.{IfSome, option_eq}
 use Rattle.std.proofs.lemmas.Bool.{cases_lt, both_ways, cases_eq, and_parts, not-true, true≢false, eqb-false, eq-eqb}
@@ -10,18 +10,15 @@ use Rattle.std.proofs.lemmas.List.{length-append, length-replicate, get_or_past,
 use Rattle.std.proofs.lemmas.Option.{none-some, same_Some, get_or_from_slice_get, unwrap_or-slice_get, slice_get_within}
 use Rattle.std.specs.Result.{OnOk, OnErr}
 use Rattle.qs_conn.specs.Marks.{IsClear as IsUntoldClear}
-use Rattle.qs_conn.specs.Marks.{is_marked, AreMarksFor, HasRoom, IsClearedFrom, IsWider, IsBefore as IsMarkBefore, IsNextMark, HaveTo, least_of, IsAt, IsHeldOf, IsMarkedBeside, both, untold, IsUntold, HasNoMark, HasAllMarks, AreSummed, AreMarkedBelow, AreUnmarkedFrom, AreFull, AreEndsMarked, IsUntoldOf}
-use Rattle.qs_machine.specs.Sums.{tables_of}
+use Rattle.qs_conn.specs.Marks.{is_marked, AreMarksFor, HasRoom, IsClearedFrom, IsWider, IsBefore as IsMarkBefore, IsNextMark, IsMarkedOf, least_of, IsAt, IsHeldOf, IsMarkedBeside, both, untold, IsUntold, HasNoMark, HasAllMarks, AreSummed, AreMarkedBelow, AreUnmarkedFrom, AreFull, AreEndsMarked, IsUntoldOf}
+use Rattle.qs_machine.specs.Sums.{changed, tables_of}
 use Rattle.qs_machine.specs.Tables.{Tables, lookup, widened, type_of, table, no_streams}
 use Rattle.qs_machine.proofs.TableEdits.{lookup_is, with_is, table_is, opened_updated}
 use Rattle.std.specs.Prelude.{option_map}
 use Rattle.qs_machine.specs.News.{IsLeast, IsHeld}
-use Rattle.qs_ranges.specs.declared.NoMemory.{NoMemory}
-use Rattle.qs_machine.specs.Heard.{is_told, IsToldBeside, IsForgotten}
-use Rattle.qs_machine.proofs.TableLaws.{lookup_open, lookup_same, lookup_other}
-use Rattle.qs_conn.proofs.Boths.{untold_is, not_both, left_below, told_below as both_told_below}
+use Rattle.qs_machine.specs.Heard.{is_told, IsToldBeside}
+use Rattle.qs_conn.proofs.Boths.{both_len, untold_len, untold_is, not_both, left_below, told_below as both_told_below}
 use Rattle.qs_machine.proofs.Ties.{nowhere}
-use Rattle.qs_conn.specs.Hearing.{IsToldOf}
 use Rattle.std.proofs.lemmas.Grind.{common_steps, get_or-set_at}
 use Rattle.std.specs.Int.{bit_at, bit_not}
 use Rattle.std.proofs.lemmas.List.FromFn.{length-map-range_with_len, get_or-map-range_with_len}
@@ -46,6 +43,16 @@ mark_past ms i le = get_or_past ms i false le
 pub mark_is : (ms : List Bool) (i : ℕ) (b : Bool) → is_marked ms i ≡ b → set ms i b ≡ ms
 mark_is ms i b is = ap (set ms i) (sym is) ∙ set-get_or ms i false
 
+-- a mark that is put where there is a place
+pub set_changed : (ms : List Bool) (i : ℕ) (b : Bool) → set ms i b ≡ changed ms i (λ m. b) (slice_get ms i)
+set_changed [] i b = refl
+set_changed (m ∷ ms) zero b = refl
+set_changed (m ∷ ms) (suc i) b = ap (λ xs. m ∷ xs) (set_changed ms i b) ∙ go (slice_get ms i)
+  where
+    go : (o : Option Bool) → m ∷ changed ms i (λ m. b) o ≡ changed (m ∷ ms) (suc i) (λ m. b) o
+    go None = refl
+    go (Some x) = refl
+
 -- Marks alone
 
 pub next_small : (ms : List Bool) (from : ℕ) (answer : Option ℕ) → length ms ≤ 2 ^ 60 → IsNextMark ms from answer → IfSome answer (λ n. n < 2 ^ 60)
@@ -56,9 +63,8 @@ next_small ms from (Some n) few next =
 pub short_opened : {E : Type 0} (r : Result (Unit {0}) E) (ms now : List Bool) (count : ℕ) → count ≤ 2 ^ 60 → length ms ≤ 2 ^ 60 → OnOk r (now ≡ ms ++ replicate (count - length ms) false) → OnErr r (now ≡ ms) → length now ≤ 2 ^ 60
 short_opened r ms now count small few ok err = grind (arith, nat_tests, length-append, length-replicate)
 
--- a search jumps over indexes without a mark
-pub unmarked_passed : (ms : List Bool) (from : ℕ) (answer : Option ℕ) → IsNextMark ms from answer → (i : ℕ) (b : Bool) → from ≤ i → IsMarkBefore i answer → slice_get ms i ≡ Some b → b ≡ false
-unmarked_passed ms from answer next i b le before at = sym (get_or_from_slice_get ms i b false at) ∙ next.unmarked i le before
+pub left_small : (ms others ts : List Bool) (from : ℕ) (answer : Option ℕ) → length ms ≤ 2 ^ 60 → IsNextMark (untold (both ms others) ts) from answer → IfSome answer (λ n. n < 2 ^ 60)
+left_small ms others ts from answer few next = next_small (untold (both ms others) ts) from answer (omega (arith, few, both_len ms others, untold_len (both ms others) ts)) next
 
 -- no index has a mark
 
@@ -83,32 +89,6 @@ before_least None b n is = (tt, is)
 before_least (Some a) None n is = (is, tt)
 before_least (Some a) (Some b) n is = (omega (arith, is), omega (arith, is))
 
-pub least_has : (P : ℕ → Type 0) (a b : Option ℕ) → IfSome a P → IfSome b P → IfSome (least_of a b) P
-least_has P None b p q = q
-least_has P (Some a) None p q = p
-least_has P (Some a) (Some b) p q = elim (cases_lt a b) [ inl lt ↦ (let e : min a b ≡ a = omega (arith, lt) in subst P (sym e) p) | inr ge ↦ (let e : min a b ≡ b = omega (arith, ge) in subst P (sym e) q) ]
-
-pub all_kinds : {X : Type 0} (Q : X → Type 0) (t : Tables X) (from : ℕ) (a b c d answer : Option ℕ) → HaveTo Q t from a 0 → HaveTo Q t from b 1 → HaveTo Q t from c 2 → HaveTo Q t from d 3 → answer ≡ least_of (least_of a b) (least_of c d)
-    → (n : ℕ) (x : X) → from ≤ n → IsMarkBefore n answer → lookup t n ≡ Some x → Q x
-all_kinds Q t from a b c d answer qa qb qc qd is n x le before at = go (n % 4) refl (omega arith)
-  where
-    parts : IsMarkBefore n (least_of a b) × IsMarkBefore n (least_of c d)
-    parts = before_least (least_of a b) (least_of c d) n (subst (IsMarkBefore n) is before)
-
-    go : (k : ℕ) → n % 4 ≡ k → k < 4 → Q x
-    go zero e lt = qa n x e le (before_least a b n parts.0).0 at
-    go (suc zero) e lt = qb n x e le (before_least a b n parts.0).1 at
-    go (suc (suc zero)) e lt = qc n x e le (before_least c d n parts.1).0 at
-    go (suc (suc (suc zero))) e lt = qd n x e le (before_least c d n parts.1).1 at
-    go (suc (suc (suc (suc k)))) e lt = absurd (omega (arith, lt))
-
--- the parts of one type from an index on
-pub of_kind : {X : Type 0} (Q : X → Type 0) (ls : List (List X)) (k from first : ℕ) (d : List X) (found answer : Option ℕ) → length ls ≡ 4 → k < 4 → first ≡ (from + 3 - k) / 4
-    → ((i : ℕ) (x : X) → first ≤ i → IsMarkBefore i found → slice_get (get_or ls k d) i ≡ Some x → Q x) → ((i : ℕ) → IsMarkBefore (i * 4 + k) answer → IsMarkBefore i found) → HaveTo Q (tables_of ls) from answer k
-of_kind Q ls k from first d found answer len small is q before n x kind le earlier at =
-    let here : n ≡ n / 4 * 4 + k = omega (arith, kind) in
-    q (n / 4) x (omega (arith, is, le, here, small)) (before (n / 4) (subst (λ m. IsMarkBefore m answer) here earlier)) (sym (lookup_is ls n k (n / 4) d len (sym kind) refl) ∙ at)
-
 -- what all parts of each type have, each open stream has
 pub has_each : {X : Type 0} (Q : X → Type 0) (ls : List (List X)) (d0 d1 d2 d3 : List X) → length ls ≡ 4 → ((i : ℕ) (x : X) → slice_get (get_or ls 0 d0) i ≡ Some x → Q x) → ((i : ℕ) (x : X) → slice_get (get_or ls 1 d1) i ≡ Some x → Q x)
     → ((i : ℕ) (x : X) → slice_get (get_or ls 2 d2) i ≡ Some x → Q x) → ((i : ℕ) (x : X) → slice_get (get_or ls 3 d3) i ≡ Some x → Q x) → (n : ℕ) (x : X) → lookup (tables_of ls) n ≡ Some x → Q x
@@ -124,10 +104,6 @@ has_each {X} Q ls d0 d1 d2 d3 len q0 q1 q2 q3 n x at = go (n % 4) refl (omega ar
     go (suc (suc (suc zero))) e lt = q3 (n / 4) x (there 3 d3 e)
     go (suc (suc (suc (suc k)))) e lt = absurd (omega (arith, lt))
 
--- what holds of each holds of the least
-pub four_have : (P : ℕ → Type 0) (a b c d : Option ℕ) → IfSome a P → IfSome b P → IfSome c P → IfSome d P → IfSome (least_of (least_of a b) (least_of c d)) P
-four_have P a b c d pa pb pc pd = least_has P (least_of a b) (least_of c d) (least_has P a b pa pb) (least_has P c d pc pd)
-
 -- ---- Searches for the least number with a property.
 
 -- none below the answer has the property
@@ -136,6 +112,15 @@ least_by P from answer found none = grind (arith, nat_tests)
 
 pub none_before : (P : ℕ → Type 0) (from : ℕ) (answer : Option ℕ) → IsLeast P from answer → (n : ℕ) → from ≤ n → IsMarkBefore n answer → P n → ⊥
 none_before P from answer h n le before p = grind (arith, nat_tests)
+
+-- what an answer says of itself
+pub found_by : (P : ℕ → Type 0) (from : ℕ) (r : Option ℕ) → IsLeast P from r → IfSome r (λ n. (from ≤ n) × P n)
+found_by P from None h = tt
+found_by P from (Some n) h = h.found n refl
+
+-- the same property in other words
+pub least_as : (P Q : ℕ → Type 0) (from : ℕ) (r : Option ℕ) → ((n : ℕ) → P n → Q n) → ((n : ℕ) → Q n → P n) → IsLeast P from r → IsLeast Q from r
+least_as P Q from r there back h = record { found = λ n is. (let f = h.found n is in (f.0, there n f.1)); least = λ n ge q. h.least n ge (back n q) }
 
 -- none below a number, none up to the next one that is looked at, nor there
 pub none_next : (P : ℕ → Type 0) (from m : ℕ) → ((n : ℕ) → n < from → P n → ⊥) → ((n : ℕ) → from ≤ n → n < m → P n → ⊥) → (P m → ⊥) → (n : ℕ) → n < m + 1 → P n → ⊥
@@ -198,6 +183,9 @@ next_of P ms k from first small begin there back r next = go r (least_by Row fir
     go None h = row_none P Row k from first small begin there h
     go (Some i) h = row_some P Row k from first small begin there i (λ n kind index is. back n kind (subst Row index is)) h
 
+pub next_stream : (ms : List Bool) (k from first : ℕ) → k < 4 → first ≡ (from + 3 - k) / 4 → (r : Option ℕ) → IsNextMark ms first r → IsLeast (IsMarkedOf ms k) from (option_map (λ i. i * 4 + k) r)
+next_stream ms k from first small begin = next_of (λ n. is_marked ms (n / 4) ≡ true) ms k from first small begin (λ n kind is. is) (λ n kind is. is)
+
 part_of : {X : Type 0} (R : X → Type 0) (ls : List (List X)) (k : ℕ) (d : List X) → length ls ≡ 4 → (n : ℕ) → type_of n ≡ k → IsHeld R (tables_of ls) n → IsAt R (get_or ls k d) (n / 4)
 part_of R ls k d len n kind (x, at, r) = (x, sym (lookup_is ls n k (n / 4) d len (sym kind) refl) ∙ at, r)
 
@@ -246,19 +234,6 @@ told_read ls n k i d b len kind index is = is ∙ ap (is_marked (get_or ls k d))
 pub told_beside : (ls : List (List Bool)) (n k i : ℕ) (d new : List Bool) → length ls ≡ 4 → k ≡ n % 4 → i ≡ n / 4 → IsMarkedBeside i (get_or ls k d) new → IsToldBeside n (tables_of ls) (tables_of (set ls k new))
 told_beside ls n k i d new len kind index is = grind (arith, nat_tests, with_is, table_is, opened_updated)
 
--- What was told stays below a bound
-
-module _ (old new : Tables Bool) (n bound : ℕ) (below : (m : ℕ) → is_told old m ≡ true → m < bound) where
-  told_below : n < bound → IsToldBeside n old new → (m : ℕ) → is_told new m ≡ true → m < bound
-  told_below small is m told = grind (arith, nat_tests, cases_eq, lookup_other, lookup_open, unwrap_or)
-
-  pub noted_below : n < bound → (r : Result (Unit {0}) NoMemory) → OnOk r (IsToldBeside n old new) → OnErr r (new ≡ old) → (m : ℕ) → is_told new m ≡ true → m < bound
-  noted_below small (Ok done) is same = told_below small is
-  noted_below small (Err refused) is same = λ m told. below m (ap (λ t. is_told t m) (sym same) ∙ told)
-
-  pub forgotten_below : IsForgotten n old new → (m : ℕ) → is_told new m ≡ true → m < bound
-  forgotten_below is m told = grind (arith, nat_tests, cases_eq, lookup_same, unwrap_or, lookup_other)
-
 -- ---- Searches for the least stream that has an answer of which its owner wasn't told.
 
 -- One row as both
@@ -298,9 +273,6 @@ told_of t n k kind = told_row t n ∙ ap (λ j. is_marked (table t j) (n / 4)) k
 none_told : (told : Tables Bool) → told ≡ no_streams → (n : ℕ) → is_told told n ≡ false
 none_told told same n = ap (λ t. is_told t n) same ∙ ap (λ o. unwrap_or o false) (nowhere n)
 
-pub none_marked : (told : Tables Bool) → told ≡ no_streams → (n : ℕ) → is_told told n ≡ true → n < 2 ^ 62
-none_marked told same n is = absurd (both_ways (is_told told n) (none_told told same n) is)
-
 pub untold_of_none : (P : ℕ → Type 0) (told : Tables Bool) (from : ℕ) (r : Option ℕ) → told ≡ no_streams → IsLeast (IsUntold P told) from r → IsLeast P from r
 untold_of_none P told from r same h = record { found = λ n is. (let f = h.found n is in (f.0, f.1.0)); least = λ n ge p. h.least n ge (p, none_told told same n) }
 
@@ -312,30 +284,26 @@ nowhere_told told none n = go (lookup told n) refl
     go None at is = true≢false (sym is)
     go (Some b) at is = both_ways b (none n b at) is
 
-module _ (told : Tables Bool) (k : ℕ) (marks : List Bool) (small : k < 4) (are : marks ≡ table told k) where
-  told_mark_of : (n : ℕ) → type_of n ≡ k → is_told told n ≡ is_marked marks (n / 4)
-  told_mark_of n kind = told_of told n k kind ∙ ap (λ ms. is_marked ms (n / 4)) (sym are)
+pub none_least : (told : Tables Bool) (from : ℕ) → ((n : ℕ) (b : Bool) → lookup told n ≡ Some b → b ≡ false) → IsLeast (λ n. is_told told n ≡ true) from None
+none_least told from none = least_by (λ n. is_told told n ≡ true) from None (λ n is. absurd (none-some n is)) (λ n ge before. nowhere_told told none n)
 
-  -- the stream of a marked index has a mark
-  pub marked_told : (i : ℕ) → IsNextMark marks 0 (Some i) → IsToldOf told k (i * 4 + k)
-  marked_told i h =
-      let n = i * 4 + k in
-      let kind : type_of n ≡ k = omega (arith, small) in
-      let index : i ≡ n / 4 = omega (arith, small) in
-      (kind, told_mark_of n kind ∙ ap (is_marked marks) (sym index) ∙ (h.found i refl).1)
+-- none before the least has a mark
+pub unmarked_before : (told : Tables Bool) (from : ℕ) (r : Option ℕ) → IsLeast (λ n. is_told told n ≡ true) from r → (n : ℕ) → from ≤ n → IsMarkBefore n r → is_told told n ≡ false
+unmarked_before told from r h n le before = go (is_told told n) refl
+  where
+    go : (b : Bool) → is_told told n ≡ b → is_told told n ≡ false
+    go true is = absurd (none_before (λ m. is_told told m ≡ true) from r h n le before is)
+    go false is = is
 
-  pub marked_small : ((n : ℕ) → is_told told n ≡ true → n < 2 ^ 62) → (i : ℕ) → IsNextMark marks 0 (Some i) → i * 4 + k < 2 ^ 62
-  marked_small few i h = few (i * 4 + k) (marked_told i h).1
+kind_told : (told : Tables Bool) (k : ℕ) (ms : List Bool) (from : ℕ) (r : Option ℕ) → ms ≡ table told k → IsLeast (IsMarkedOf ms k) from r → IsLeast (OfKind (λ n. is_told told n ≡ true) k) from r
+kind_told told k ms from r are = least_as (IsMarkedOf ms k) (OfKind (λ n. is_told told n ≡ true) k) from r (λ n (kind, is). (kind, here n kind ∙ is)) (λ n (kind, is). (kind, sym (here n kind) ∙ is))
+  where
+    here : (n : ℕ) → type_of n ≡ k → is_told told n ≡ is_marked ms (n / 4)
+    here n kind = told_of told n k kind ∙ ap (λ bs. is_marked bs (n / 4)) (sym are)
 
-  pub told_some : (i : ℕ) → IsNextMark marks 0 (Some i) → IsLeast (IsToldOf told k) 0 (Some (i * 4 + k))
-  told_some i h =
-      least_by (IsToldOf told k) 0 (Some (i * 4 + k)) (λ n is. (omega arith, rw (← same_Some (i * 4 + k) n is) (marked_told i h)))
-      (λ n ge before p. both_ways (is_marked marks (n / 4)) (h.unmarked (n / 4) (omega arith) (let kind = p.0 in omega (arith, before, kind, small))) (sym (told_mark_of n p.0) ∙ p.1))
-
-  pub told_none : IsNextMark marks 0 None → IsLeast (IsToldOf told k) 0 None
-  told_none h =
-      least_by (IsToldOf told k) 0 None (λ n is. absurd (none-some n is))
-      (λ n ge before p. both_ways (is_marked marks (n / 4)) (h.unmarked (n / 4) (omega arith) tt) (sym (told_mark_of n p.0) ∙ p.1))
+pub four_told : (told : Tables Bool) (from : ℕ) (m0 m1 m2 m3 : List Bool) (a b c d : Option ℕ) → m0 ≡ table told 0 → m1 ≡ table told 1 → m2 ≡ table told 2 → m3 ≡ table told 3 → IsLeast (IsMarkedOf m0 0) from a → IsLeast (IsMarkedOf m1 1) from b → IsLeast (IsMarkedOf m2 2) from c → IsLeast (IsMarkedOf m3 3) from d
+    → IsLeast (λ n. is_told told n ≡ true) from (least_of (least_of a b) (least_of c d))
+four_told told from m0 m1 m2 m3 a b c d e0 e1 e2 e3 p q r s = kinds_four (λ n. is_told told n ≡ true) from a b c d (kind_told told 0 m0 from a e0 p) (kind_told told 1 m1 from b e1 q) (kind_told told 2 m2 from c e2 r) (kind_told told 3 m3 from d e3 s)
 
 -- ---- Flags as bits of words: a list of them, and a search.
 
@@ -529,23 +497,18 @@ module _ {X : Type 0} (p : X → Bool) (xs : List X) (ms : List Bool) (are : Are
       least_by (IsAt (λ x. p x ≡ true) xs) from r (λ n found. ((next.found n found).0, at_mark n (next.found n found).1))
       (λ i ge before (x, at, has). both_ways (p x) (sym (mark_at i x at) ∙ next.unmarked i ge before) has)
 
-  pub found_small : (r : Option ℕ) → ((n : ℕ) → r ≡ Some n → is_marked ms n ≡ true) → IfSome r (λ n. n < 2 ^ 60)
-  found_small None marked = tt
-  found_small (Some n) marked = omega (arith, marked_below ms n (marked n refl), are.few)
-
   -- the next part has no mark yet
   pub unmarked_next : (n : ℕ) → n ≡ length xs → is_marked ms n ≡ false
   unmarked_next n at = are.tell n ∙ mark_past (map p xs) n (omega (arith, at, length-map xs p))
 
   pub marks_wider : (now : List Bool) → IsWider ms now → AreMarksFor p xs now
-  marks_wider now wide = record { tell = λ i. wide.same i ∙ are.tell i; room = omega (arith, are.room, wide.longer); few = wide.few are.few }
+  marks_wider now wide = record { tell = λ i. wide.same i ∙ are.tell i; room = omega (arith, are.room, wide.longer) }
 
   -- a part was changed and then looked at
   pub marks_set : (i : ℕ) (y : X) → i < length xs → AreMarksFor p (set xs i y) (set ms i (p y))
   marks_set i y there = record {
     tell = λ j. set_alike ms (map p xs) i (p y) are.tell (omega (arith, there, are.room)) (omega (arith, there, length-map xs p)) j ∙ ap (λ bs. is_marked bs j) (sym (map-set p xs i y));
     room = rw (length-set, length-set) are.room;
-    few = rw length-set are.few;
   }
 
   -- one more opens
@@ -553,7 +516,6 @@ module _ {X : Type 0} (p : X → Bool) (xs : List X) (ms : List Bool) (are : Are
   marks_next n x b at room is = record {
     tell = λ j. next_alike ms (map p xs) n b are.tell (at ∙ sym (length-map xs p)) (omega (arith, room)) j ∙ ap (λ c. is_marked (map p xs ++ c ∷ []) j) (sym is) ∙ ap (λ bs. is_marked bs j) (sym (map-append p xs (x ∷ [])));
     room = omega (arith, at, room, length-set ms n b, length-append xs (x ∷ []));
-    few = rw length-set are.few;
   }
 
   pub marks_same : (n : ℕ) (x : X) → n ≡ length xs → HasRoom (n + 1) ms → p x ≡ false → AreMarksFor p (xs ++ x ∷ []) ms
@@ -564,16 +526,15 @@ module _ {X : Type 0} (p : X → Bool) (xs : List X) (ms : List Bool) (are : Are
   marks_fewer n now cleared = record {
     tell = λ j. cut_alike ms (map p xs) now n are.tell cleared j ∙ ap (λ bs. is_marked bs j) (take-map p n xs);
     room = omega (arith, are.room, cleared.len, length-take n xs);
-    few = omega (arith, are.few, cleared.len);
   }
 
 -- A row of which memory was asked for more
 
 pub wider_same : (ms : List Bool) → IsWider ms ms
-wider_same ms = record { same = λ i. refl; longer = omega arith; few = λ few. few }
+wider_same ms = record { same = λ i. refl; longer = omega arith }
 
-pub wider_opened : {E : Type 0} (r : Result (Unit {0}) E) (ms now : List Bool) (count : ℕ) → count ≤ 2 ^ 60 → OnOk r (now ≡ ms ++ replicate (count - length ms) false) → OnErr r (now ≡ ms) → IsWider ms now
-wider_opened r ms now count small ok err = grind (arith, nat_tests, length-append, length-replicate, padded)
+pub wider_opened : {E : Type 0} (r : Result (Unit {0}) E) (ms now : List Bool) (count : ℕ) → OnOk r (now ≡ ms ++ replicate (count - length ms) false) → OnErr r (now ≡ ms) → IsWider ms now
+wider_opened r ms now count ok err = grind (arith, nat_tests, length-append, length-replicate, padded)
 
 pub room_opened : {E : Type 0} (r : Result (Unit {0}) E) (ms now : List Bool) (index : ℕ) → OnOk r (now ≡ ms ++ replicate (index + 64 - length ms) false) → OnOk r (HasRoom index ms → HasRoom (index + 1) now)
 room_opened r ms now index ok = grind (arith, nat_tests, length-append, length-replicate)
@@ -707,8 +668,8 @@ module _ (t : RecvTask) (recvs : Tables RecvLane) (ms : List Bool) (k : ℕ) (sm
   none_recv_marked n kind none held = both_ways (is_marked ms (n / 4)) none (held_marked n kind held)
 
   -- a search over them is one over the streams
-  pub next_held : (from first : ℕ) (r : Option ℕ) → first ≡ (from + 3 - k) / 4 → IsNextMark ms first r → IsLeast (IsHeldOf (HasOne t) recvs k) from (option_map (λ i. i * 4 + k) r)
-  next_held from first r begin = next_of (IsHeld (HasOne t) recvs) ms k from first small begin held_marked marked_held r
+  pub next_held : (from : ℕ) (r : Option ℕ) → IsLeast (IsMarkedOf ms k) from r → IsLeast (IsHeldOf (HasOne t) recvs k) from r
+  next_held from r = least_as (IsMarkedOf ms k) (IsHeldOf (HasOne t) recvs k) from r (λ n (kind, is). (kind, marked_held n kind is)) (λ n (kind, held). (kind, held_marked n kind held))
 
   pub next_untold : (told : Tables Bool) (r : Option ℕ) → IsNextMark (untold (both ms ms) (table told k)) 0 r → IsLeast (IsUntoldOf (IsHeld (HasOne t) recvs) told k) 0 (option_map (λ i. i * 4 + k) r)
   next_untold told r next =
@@ -716,10 +677,6 @@ module _ (t : RecvTask) (recvs : Tables RecvLane) (ms : List Bool) (k : ℕ) (sm
       (λ n kind (held, free). untold_is ms (table told k) (n / 4) ∙ ap (λ b. b && not (is_marked (table told k) (n / 4))) (held_marked n kind held) ∙ ap not (sym (told_of told n k kind) ∙ free))
       (λ n kind is. (let left = left_at ms (table told k) (n / 4) is in (marked_held n kind left.0, told_of told n k kind ∙ left.1)))
       r (next_self ms (table told k) 0 r next)
-
--- a mark that is left is one
-pub untold_within : (ms ts : List Bool) (i : ℕ) → is_marked (untold (both ms ms) ts) i ≡ true → i < length ms
-untold_within ms ts i is = marked_below ms i (ap (λ xs. is_marked xs i) (sym (both_self ms)) ∙ (left_at (both ms ms) ts i is).0)
 
 -- A reader of such a lane waits, where what was told was an end or a reset (RFC 9000, sections 2.2 and 3.2)
 
@@ -753,4 +710,4 @@ raised_marks t [] = refl
 raised_marks t (x ∷ xs) = rw (has_raised t x, raised_marks t xs) refl
 
 pub noted_raised : (xs : List RecvLane) (marks : RecvMarks) → AreNoted xs marks → AreNoted (map raise xs) marks
-noted_raised xs marks h t = let m = h t in record { tell = λ i. m.tell i ∙ ap (λ bs. is_marked bs i) (sym (raised_marks t xs)); room = rw length-map m.room; few = m.few }
+noted_raised xs marks h t = let m = h t in record { tell = λ i. m.tell i ∙ ap (λ bs. is_marked bs i) (sym (raised_marks t xs)); room = rw length-map m.room }

@@ -16,6 +16,7 @@ use Rattle.qs_machine.specs.Ends.{Records, AckedItems, first_window_by}
 use Rattle.qs_machine.specs.Told.{IsNoted}
 use Rattle.qs_machine.specs.Heard.{is_told}
 use Rattle.qs_machine.specs.Outgoing.{Outgoing, IsBlockedAt}
+use Rattle.qs_machine.specs.Sums.{or_none}
 use Rattle.qs_conn.specs.declared.due.Due.{Due}
 use Rattle.qs_conn.specs.declared.slot.Slot.{Slot}
 use Rattle.qs_conn.specs.declared.slot.Kind.{Kind}
@@ -200,8 +201,7 @@ due_without (Told i) recvs sends t = if is_present i recvs sends then item_marke
 
 -- the last bytes that were written, so many, brought a stream to its limit with more written
 abbrev pub IsBlockedBy : (count : ℕ) → Option SendLane → ℕ → Type 0
-IsBlockedBy count None m = ⊥
-IsBlockedBy count (Some l) m = IsBlockedAt (Some l) m × (l.written ≤ m + count)
+IsBlockedBy count o m = IsBlockedAt o m × ((or_none o).written ≤ m + count)
 
 -- the marks once a stream that came to its limit, if it did, has one for that
 abbrev pub IsNotedBlock : (ℕ → Type 0) → ℕ → Due → Due → Type 0

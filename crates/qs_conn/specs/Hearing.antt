@@ -1,14 +1,14 @@
 -- Of private contracts.
 -- What an owner heard as numbers and lists, so that it can be what contracts see of it; and what it hears of its peer.
-use Rattle.std.specs.Prelude.{◌≡◌, ℕ, ◌+◌, ◌*◌, ◌≤◌, Bool, true, Option, None, Some, nat_lt, refl, if◌then◌else◌}
+use Rattle.std.specs.Prelude.{◌≡◌, ℕ, ◌+◌, ◌*◌, ◌≤◌, Bool, Option, None, Some, nat_lt, refl, if◌then◌else◌}
 use Rattle.std.specs.Coded.{Coded, code_by, coded×, coded_ℕ, coded_bool}
 use Rattle.qs_wire.specs.declared.stream_id.Dir.{Dir}
 use Rattle.qs_calls.specs.declared.news.News.{News}
-use Rattle.qs_machine.specs.Tables.{Tables, type_of}
+use Rattle.qs_machine.specs.Tables.{Tables}
 use Rattle.qs_machine.specs.Ends.{End, peer_type}
 use Rattle.qs_machine.specs.Owner.{opened_count}
 use Rattle.qs_machine.specs.EndCodes.{tables_code}
-use Rattle.qs_machine.specs.Heard.{Hearing, Blocked, IsNews, ComesBefore, kind_of, is_told}
+use Rattle.qs_machine.specs.Heard.{Hearing, Blocked, IsNews, ComesBefore, kind_of}
 
 abbrev pub marks_code : Coded (Tables Bool)
 marks_code = tables_code coded_bool
@@ -44,10 +44,6 @@ hearing_code =
 -- the next stream of a direction that the peer opened, where so many were heard of (RFC 9000, section 2.1)
 abbrev pub next_of_peer : End → Dir → ℕ → Option ℕ
 next_of_peer e d heard = if nat_lt heard (opened_count e (peer_type e d)) then Some (heard * 4 + peer_type e d) else None
-
--- a stream of a type has a mark
-abbrev pub IsToldOf : Tables Bool → ℕ → ℕ → Type 0
-IsToldOf told kind n = (type_of n ≡ kind) × (is_told told n ≡ true)
 
 -- the answer is the first piece of news of those of a kind or a later one, and None only where there is none
 pub record IsFirstFrom (k : ℕ) (e : End) (h : Hearing) (answer : Option News) : Type 0 where

@@ -1,8 +1,8 @@
 -- Of private contracts.
 -- Which streams may have something to send or to tell: a mark for each index, and streams that have nothing.
-use Rattle.std.specs.Prelude.{◌≡◌, ℕ, ◌+◌, ◌*◌, ◌/◌, ◌^◌, ◌≤◌, ◌<◌, ◌⊎◌, length, map, Bool, true, false, not, ◌&&◌, List, [], ◌∷◌, slice_index_or, slice_get, slice_set, min, Option, None, Some}
+use Rattle.std.specs.Prelude.{◌≡◌, ℕ, ◌+◌, ◌*◌, ◌/◌, ◌≤◌, ◌<◌, ◌⊎◌, length, map, Bool, true, false, not, ◌&&◌, List, [], ◌∷◌, slice_index_or, slice_get, slice_set, min, Option, None, Some}
 pub use Rattle.qs_ranges.specs.Bits.{IsBefore}
-use Rattle.qs_machine.specs.Tables.{Tables, type_of, lookup, widened}
+use Rattle.qs_machine.specs.Tables.{Tables, type_of, widened}
 use Rattle.qs_machine.specs.Sums.{changed}
 use Rattle.qs_send.specs.declared.piece.Item.{Item}
 use Rattle.qs_conn.specs.declared.slot.Slot.{Slot}
@@ -52,13 +52,11 @@ HasRoom n marks = (n + 63) / 64 * 64 ≤ length marks
 pub record AreMarksFor {X : Type 0} (p : X → Bool) (xs : List X) (marks : List Bool) : Type 0 where
   pub tell : (i : ℕ) → is_marked marks i ≡ is_marked (map p xs) i
   pub room : HasRoom (length xs) marks
-  pub few : length marks ≤ 2 ^ 60
 
 -- more indexes, and no mark more
 pub record IsWider (old new : List Bool) : Type 0 where
   pub same : (i : ℕ) → is_marked new i ≡ is_marked old i
   pub longer : length old ≤ length new
-  pub few : length old ≤ 2 ^ 60 → length new ≤ 2 ^ 60
 
 -- the marks from an index on are taken away
 pub record IsClearedFrom (n : ℕ) (old new : List Bool) : Type 0 where
@@ -72,9 +70,9 @@ least_of None b = b
 least_of (Some a) None = Some a
 least_of (Some a) (Some b) = Some (min a b)
 
--- the streams of one type from a number on, below the answer, have the property
-abbrev pub HaveTo : {X : Type 0} → (X → Type 0) → Tables X → ℕ → Option ℕ → ℕ → Type 0
-HaveTo {X} Q t from answer kind = (n : ℕ) (x : X) → type_of n ≡ kind → from ≤ n → IsBefore n answer → lookup t n ≡ Some x → Q x
+-- a stream of a type has its index marked
+abbrev pub IsMarkedOf : List Bool → ℕ → ℕ → Type 0
+IsMarkedOf marks kind n = (type_of n ≡ kind) × (is_marked marks (n / 4) ≡ true)
 
 -- the least marked index from an index on
 pub record IsNextMark (marks : List Bool) (from : ℕ) (answer : Option ℕ) : Type 0 where

@@ -31,7 +31,7 @@ pub record IsCore (c : Core) : Type 0 where
   pub credit : sent_sum c.outbox.sends ≤ c.limits.known_data
   pub counts : CountsFit c.limits.role c.limits.settings c.recvs c.outbox.sends c.ended c.limits.granted_streams.bidi c.limits.granted_streams.uni
   pub due : AreDue c.limits.role c.limits.settings c.recvs c.outbox.sends (packets_of c.outbox) c.due
-  pub own : AreOwn c.limits c.outbox.outstanding c.own
+  pub own : AreOwn c.limits (packets_of c.outbox) c.own
 
 -- no packet is in the making
 pub record IsAtRest (c : Core) : Type 0 where

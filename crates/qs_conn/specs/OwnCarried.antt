@@ -1,14 +1,15 @@
 -- Of private contracts.
--- Which items of the connection itself are outstanding.
-use Rattle.std.specs.Prelude.{◌≡◌, ◌+◌, ◌≤◌, ◌<◌, ◌==◌, ℕ, Bool, false, if◌then◌else◌, List, [], ◌∷◌, Option, None, Some, length, slice_index_or, slice_set, nat_lt}
+-- Which items of the connection itself were told.
+use Rattle.std.specs.Prelude.{◌≡◌, ◌+◌, ◌≤◌, ◌<◌, ◌==◌, ℕ, Bool, false, if◌then◌else◌, List, [], ◌∷◌, Option, None, Some, ◌⊎◌, length, slice_index_or, slice_set, nat_lt}
 use Rattle.qs_send.specs.Records.{IsCarried}
 use Rattle.qs_send.specs.PieceCodes.{dir_number}
 use Rattle.qs_send.specs.declared.piece.Item.{Item}
 use Rattle.qs_send.specs.declared.piece.Item.TheVariants.{MaxData, MaxStreams, DataBlocked, StreamsBlocked}
 use Rattle.qs_send.specs.declared.piece.Piece.{Piece}
 use Rattle.qs_send.specs.declared.piece.Piece.TheVariants.{Data, Told}
-use Rattle.qs_machine.specs.Ends.{Records}
+use Rattle.qs_machine.specs.Told.{IsNoted}
 use Rattle.qs_conn.specs.declared.limits.Limits.{Limits}
+use Rattle.qs_conn.specs.Due.{Packets, IsToldIn}
 
 -- for each kind of item of the connection itself a value that may be kept
 abbrev pub Kept : Type 0
@@ -50,7 +51,7 @@ has_own i xs = if nat_lt (own_place i) 6 then is_value (kept_at xs (own_place i)
 abbrev pub own_with : Item → Kept → Kept
 own_with i xs = if nat_lt (own_place i) 6 then slice_set xs (own_place i) (Some (own_value i)) else xs
 
--- and once it left that
+-- and once that is lost
 abbrev pub own_without : Item → Kept → Kept
 own_without i xs = if has_own i xs then slice_set xs (own_place i) None else xs
 
@@ -58,14 +59,19 @@ abbrev pub own_left : Piece → Kept → Kept
 own_left (Data n c) xs = xs
 own_left (Told i) xs = own_without i xs
 
--- Of an item of the connection itself: one that is kept is outstanding, one that is outstanding tells the present value or a smaller one,
--- and if it tells the present one it is kept.
-pub record IsOwn (t : Limits) (m : Records) (xs : Kept) (i : Item) : Type 0 where
-  pub told : kept_at xs (own_place i) ≡ Some (own_value i) → IsCarried m (Told i)
-  pub below : IsCarried m (Told i) → own_value i ≤ present_at t (own_place i)
-  pub found : IsCarried m (Told i) → own_value i ≡ present_at t (own_place i) → kept_at xs (own_place i) ≡ Some (own_value i)
+-- a packet told an item: one in flight, a lost one that is kept, or one that was acknowledged
+abbrev pub WasTold : Packets → Item → Type 0
+WasTold p i = IsCarried p.out (Told i) ⊎ IsCarried p.lost (Told i) ⊎ IsNoted p.acked i
 
--- what is kept tells whether the present items of the connection itself are outstanding
-pub record AreOwn (t : Limits) (m : Records) (xs : Kept) : Type 0 where
+-- Of an item of the connection itself: what is kept and what packets told is the present value or a smaller one. If the present one is kept,
+-- a packet told it that isn't lost; and if one in flight tells it, it is kept (RFC 9000, section 13.3).
+pub record IsOwn (t : Limits) (p : Packets) (xs : Kept) (i : Item) : Type 0 where
+  pub within : kept_at xs (own_place i) ≡ Some (own_value i) → own_value i ≤ present_at t (own_place i)
+  pub below : WasTold p i → own_value i ≤ present_at t (own_place i)
+  pub told : kept_at xs (own_place i) ≡ Some (own_value i) → own_value i ≡ present_at t (own_place i) → IsToldIn p i
+  pub found : IsCarried p.out (Told i) → own_value i ≡ present_at t (own_place i) → kept_at xs (own_place i) ≡ Some (own_value i)
+
+-- what is kept tells which present items of the connection itself were told
+pub record AreOwn (t : Limits) (p : Packets) (xs : Kept) : Type 0 where
   pub places : length xs ≡ 6
-  pub each : (i : Item) → own_place i < 6 → IsOwn t m xs i
+  pub each : (i : Item) → own_place i < 6 → IsOwn t p xs i

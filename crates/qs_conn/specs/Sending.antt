@@ -1,6 +1,6 @@
 -- Of private contracts.
 -- Whether anything is due that may go: what a walk over control items and streams tells.
-use Rattle.std.specs.Prelude.{◌≡◌, ℕ, ◌-◌, Bool, true, false, ◌⊎◌, List, take, min, Option, None, Some, is_some, if◌then◌else◌}
+use Rattle.std.specs.Prelude.{◌≡◌, ℕ, Bool, true, false, ◌⊎◌, List, take, min, Option, None, Some, is_some, if◌then◌else◌}
 use Rattle.qs_send.specs.Lane.{SendLane, accepted, refusal, free_room}
 use Rattle.qs_send.specs.Writable.{is_writable}
 use Rattle.qs_send.specs.declared.piece.Item.{Item}
@@ -22,10 +22,6 @@ IsDueOf e n = IsHeld (HasForPacket e n) e.sends n
 abbrev pub MayWrite : SendLane → Type 0
 MayWrite l = is_writable l ≡ true
 
--- and its limit lets them go (RFC 9000, section 4.1)
-abbrev pub IsFunded : SendLane → Type 0
-IsFunded l = is_funded l ≡ true
-
 -- what a half's own buffer, and its limit where writes keep within credit, let it take (RFC 9000, sections 2.2 and 4.1)
 abbrev pub TakesAlone : End → SendLane → Type 0
 TakesAlone e l = (if e.tuning.within_credit then is_funded l else is_writable l) ≡ true
@@ -38,10 +34,6 @@ buffer_room (Some l) = if is_some (refusal l) then 0 else accepted l (free_room 
 -- the same, and of an end that writes within credit as may be sent at once (RFC 9000, section 4.1)
 abbrev pub credit_room : End → Option SendLane → ℕ
 credit_room e o = if e.tuning.within_credit then min (buffer_room o) (credit_for e (or_none o)) else buffer_room o
-
--- how many bytes more may be written that the half's own limit lets go (RFC 9000, section 4.1)
-abbrev pub limit_left : SendLane → ℕ
-limit_left l = l.limit - l.written
 
 -- as many bytes as credit lets go, where writes keep within it (RFC 9000, section 4.1)
 abbrev pub let_go : End → SendLane → List ℕ → List ℕ
@@ -59,10 +51,6 @@ offered e l bytes = front_of (window_left e) (let_go e l bytes)
 -- a half came to its end: Data Recvd or Reset Recvd (RFC 9000, section 3.1)
 abbrev pub HasSent : SendLane → Type 0
 HasSent l = send_ended l ≡ true
-
--- of a half a STOP_SENDING came (RFC 9000, section 3.5)
-abbrev pub WasStopped : SendLane → Type 0
-WasStopped l = is_some l.stopped ≡ true
 
 -- some item is due; or none of the slots that were passed
 abbrev pub TellsDue : Bool → End → Passed → Type 0

@@ -1,10 +1,9 @@
 //! What the peer said blocks it, until the application is notified. It is no state of an endpoint, so it is kept beside.
-ghost use Rattle.std.specs.Prelude.{◌≡◌, ◌<◌, ◌^◌, true, None, OnOk, OnErr, IfSome};
+ghost use Rattle.std.specs.Prelude.{◌≡◌, true, None, OnOk, OnErr};
 ghost use Rattle.qs_machine.specs.Heard.{nothing_blocked, is_held_back, with_held_back, is_told, IsToldBeside, IsForgotten};
 ghost use Rattle.qs_machine.specs.News.{IsLeast};
 ghost use Rattle.qs_machine.specs.Tables.{lookup};
 ghost use Rattle.qs_conn.specs.ByDir.{IsFirstDir};
-ghost use Rattle.qs_conn.specs.Hearing.{IsToldOf};
 
 use crate::by_dir::ByDir;
 use crate::places::least_stream;
@@ -24,8 +23,7 @@ pub(crate) struct BlockedMarks {
 }
 
 impl Model for BlockedMarks {
-    ghost use Rattle.std.specs.Prelude.{ℕ, ◌≡◌, ◌<◌, ◌^◌, true};
-    ghost use Rattle.qs_machine.specs.Heard.{Blocked, is_told};
+    ghost use Rattle.qs_machine.specs.Heard.{Blocked};
     ghost use Rattle.qs_conn.specs.Hearing.{blocked_code};
 
     ghost Value = { Blocked };
@@ -33,12 +31,9 @@ impl Model for BlockedMarks {
     ghost coded = { blocked_code };
 
     ghost view = { λ b. record { conn = b.conn; streams = b.streams; bidi = b.dirs.bidi; uni = b.dirs.uni } };
-
-    ghost invariant = { λ b. (n : ℕ) → is_told b.streams n ≡ true → n < 2 ^ 62 };
 }
 
 impl BlockedMarks {
-    #[tactic(auto, using(crate::proofs::Marked::none_marked))]
     pub(crate) fn new(alloc: Global) -> Self
         ensures { result ≡ nothing_blocked }
     {
@@ -105,22 +100,10 @@ impl BlockedMarks {
             return None;
         }
         least_stream(
-            self.next_of(0),
-            self.next_of(1),
-            self.next_of(2),
-            self.next_of(3),
+            self.streams.of_type(0).marks().next_stream(0, 0),
+            self.streams.of_type(1).marks().next_stream(1, 0),
+            self.streams.of_type(2).marks().next_stream(2, 0),
+            self.streams.of_type(3).marks().next_stream(3, 0),
         )
-    }
-
-    fn next_of(&self, stream_type: usize) -> Option<u64>
-        requires { stream_type < 4 }
-        ensures least { IsLeast (IsToldOf self.now.streams stream_type) 0 result }
-        ensures small { IfSome result (λ n. n < 2 ^ 62) }
-    {
-        let told = self.streams.of_type(stream_type);
-        match told.marks().next(0) {
-            Some(index) => Some((index * 4 + stream_type) as u64),
-            None => None,
-        }
     }
 }

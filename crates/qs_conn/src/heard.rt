@@ -161,6 +161,7 @@ impl Heard {
     }
 
     // In the order of kinds, each by a search of its own: what no longer holds is so never found.
+    #[inline(always)]
     fn first(&self, end: &Endpoint) -> Option<News>
         ensures { IsFirstNews end.now self.now result }
     {
@@ -207,6 +208,7 @@ impl Heard {
     }
 
     // Noted before it is returned, so that a refusal leaves it for the next call.
+    #[inline(always)]
     fn hear(&mut self, answer: &Option<News>) -> Result<(), NoMemory>
         requires { (n : ℕ) → answer.now ≡ Some (News.Opened n) → index_of n ≡ heard_opened self.old (dir_of n) }
         ensures none { answer.now ≡ None → (result ≡ Ok tt) × (self.new ≡ self.old) }

@@ -10,6 +10,7 @@ ghost use Rattle.qs_conn.specs.declared.limits.Limits.{Limits};
 ghost use Rattle.qs_machine.specs.Outgoing.{Outgoing};
 ghost use Rattle.qs_conn.specs.Filling.{end_by, IsCurrentIn, ItemFits, LimitsFit, with_window, with_grant, AnyWantsMore};
 ghost use Rattle.qs_conn.specs.Marks.{IsIdle};
+ghost use Rattle.qs_conn.specs.Due.{packets_of};
 ghost use Rattle.qs_conn.specs.OwnCarried.{AreOwn};
 
 use crate::by_dir::ByDir;
@@ -63,32 +64,33 @@ impl Limits {
     }
 
     /// Whether a look at few numbers shows that no item is due, as is mostly so: then no half is looked at.
+    #[inline(always)]
     pub(crate) fn has_told(&self, outbox: &Outbox, own: &OwnCarried, slot: &Slot) -> bool
         requires fits { LimitsFit self.now }
-        requires own { AreOwn self.now outbox.now.outstanding own.now }
+        requires own { AreOwn self.now (packets_of outbox.now) own.now }
         ensures { result ≡ true → (recvs : Tables RecvLane) (e : End) → IsIdle (end_by self.now recvs outbox.now e) slot.now }
     {
         match *slot {
-            Slot::MaxData => self.max_data().is_none(),
-            Slot::MaxStreams(dir) => self.max_streams(dir).is_none(),
+            Slot::MaxData => own.has_told(self.max_data()),
+            Slot::MaxStreams(dir) => own.has_told(self.max_streams(dir)),
             Slot::DataBlocked => self.has_told_blocked(outbox, own),
-            Slot::StreamsBlocked(dir) => self.streams_blocked(dir).is_none(),
+            Slot::StreamsBlocked(dir) => own.has_told(self.streams_blocked(dir)),
             _ => false,
         }
     }
 
     // No stream is looked at.
     #[inline(always)]
-    #[tactic(auto, using(crate::proofs::Owns::own_covered, crate::proofs::Untolds::of_slot))]
+    #[tactic(auto, using(crate::proofs::Owns::present_idle, crate::proofs::Untolds::of_slot))]
     fn has_told_blocked(&self, outbox: &Outbox, own: &OwnCarried) -> bool
-        requires { AreOwn self.now outbox.now.outstanding own.now }
+        requires { AreOwn self.now (packets_of outbox.now) own.now }
         ensures { result ≡ true → (recvs : Tables RecvLane) (e : End) → IsIdle (end_by self.now recvs outbox.now e) slots.DataBlocked }
     {
         if outbox.sent_sum() < self.known_data {
             return true;
         }
         let limit = self.known_data;
-        own.is_told(outbox, &Item::DataBlocked { limit })
+        own.has(&Item::DataBlocked { limit })
     }
 
     /// A greater window moves the limit at once (RFC 9000, section 4.1): a step that is never reached would hide it.

@@ -1,8 +1,10 @@
 //! Which streams of one type may have something to send or to tell.
-ghost use Rattle.std.specs.Prelude.{List, Bool, None, ◌≡◌, ◌++◌, ◌+◌, ◌*◌, ◌-◌, ◌<◌, ◌≤◌, ◌^◌, ℕ, [], true, false, Some, length, slice_set, replicate, OnOk, OnErr};
-ghost use Rattle.qs_conn.specs.Marks.{IsClear, is_marked, HasRoom, IsClearedFrom, IsWider, IsNextMark, AreSummed, AreUnmarkedFrom, least_of, both, untold};
+ghost use Rattle.std.specs.Prelude.{List, Bool, None, ◌≡◌, ◌++◌, ◌+◌, ◌*◌, ◌-◌, ◌<◌, ◌≤◌, ◌^◌, ℕ, [], true, false, Some, length, slice_set, replicate, IfSome, OnOk, OnErr};
+ghost use Rattle.qs_machine.specs.News.{IsLeast};
+ghost use Rattle.qs_conn.specs.Marks.{IsClear, is_marked, HasRoom, IsClearedFrom, IsWider, IsNextMark, IsMarkedOf, AreSummed, AreUnmarkedFrom, least_of, both, untold};
 
 use crate::bits::{Bits, Both, FLAGS_PER_WORD, Left, Row};
+use crate::places::index_from;
 use crate::told_marks::ToldMarks;
 use qs_ranges::{NoMemory, lowest_bit};
 use std::alloc::Global;
@@ -22,7 +24,7 @@ pub(crate) struct Marks {
 }
 
 impl Model for Marks {
-    ghost use Rattle.std.specs.Prelude.{◌+◌, List, Bool};
+    ghost use Rattle.std.specs.Prelude.{◌+◌, ◌≤◌, ◌^◌, List, Bool, length};
     ghost use Rattle.std.specs.Coded.{coded_list, coded_bool};
     ghost use Rattle.qs_conn.specs.Marks.{AreSummed, AreUnmarkedFrom, IsNextMark};
 
@@ -32,7 +34,7 @@ impl Model for Marks {
 
     ghost view = { λ m. m.marks };
 
-    ghost invariant = { λ m. AreSummed m.marks m.words × AreUnmarkedFrom m.marks (m.last + 1) × IsNextMark m.marks 0 m.first };
+    ghost invariant = { λ m. AreSummed m.marks m.words × AreUnmarkedFrom m.marks (m.last + 1) × IsNextMark m.marks 0 m.first × (length m.marks ≤ 2 ^ 60) };
 }
 
 impl Marks {
@@ -74,6 +76,7 @@ impl Marks {
     }
 
     pub(crate) fn open_to(&mut self, count: usize) -> Result<(), NoMemory>
+        requires { count ≤ 2 ^ 60 }
         ensures ok { OnOk result (self.new ≡ self.old ++ replicate (count - length self.old) false) }
         ensures err { OnErr result (self.new ≡ self.old) }
     {
@@ -150,8 +153,10 @@ impl Marks {
         }
     }
 
+    #[tactic(auto, using(crate::proofs::Marked::next_small))]
     pub(crate) fn next(&self, from: usize) -> Option<usize>
-        ensures { IsNextMark self.now from result }
+        ensures next { IsNextMark self.now from result }
+        ensures small { IfSome result (λ n. n < 2 ^ 60) }
     {
         match self.first {
             Some(first) if first < from => least_from(from, &self.marks, &self.words),
@@ -159,10 +164,24 @@ impl Marks {
         }
     }
 
+    /// The same of the streams of a type, by number.
+    pub(crate) fn next_stream(&self, stream_type: usize, from: u64) -> Option<u64>
+        requires stream_type { stream_type < 4 }
+        requires from { from ≤ 2 ^ 62 }
+        ensures least { IsLeast (IsMarkedOf self.now stream_type) from result }
+        ensures small { IfSome result (λ n. n < 2 ^ 62) }
+    {
+        match self.next(index_from(stream_type, from)) {
+            Some(index) => Some((index * 4 + stream_type) as u64),
+            None => None,
+        }
+    }
+
     #[inline(never)]
-    #[tactic(auto, using(crate::proofs::Boths::both_len))]
+    #[tactic(auto, using(crate::proofs::Marked::next_small, crate::proofs::Boths::both_len))]
     pub(crate) fn next_both(&self, others: &Marks, from: usize) -> Option<usize>
-        ensures { IsNextMark (both self.now others.now) from result }
+        ensures next { IsNextMark (both self.now others.now) from result }
+        ensures small { IfSome result (λ n. n < 2 ^ 60) }
     {
         let summary = Both {
             marks: &self.words,
@@ -189,7 +208,8 @@ impl Marks {
     /// If only these marks count, they are both, so that one search serves all.
     #[inline(always)]
     pub(crate) fn next_untold(&self, others: &Marks, told: &ToldMarks, from: usize) -> Option<usize>
-        ensures { IsNextMark (untold (both self.now others.now) told.now) from result }
+        ensures next { IsNextMark (untold (both self.now others.now) told.now) from result }
+        ensures small { IfSome result (λ n. n < 2 ^ 60) }
     {
         let first = self.first?;
         let below = told.first();
@@ -201,8 +221,10 @@ impl Marks {
     }
 
     #[inline(always)]
+    #[tactic(auto, using(crate::proofs::Marked::left_small))]
     fn least_untold(&self, others: &Marks, told: &ToldMarks, from: usize) -> Option<usize>
-        ensures { IsNextMark (untold (both self.now others.now) told.now) from result }
+        ensures next { IsNextMark (untold (both self.now others.now) told.now) from result }
+        ensures small { IfSome result (λ n. n < 2 ^ 60) }
     {
         let words = Both {
             marks: &self.words,

@@ -1,10 +1,9 @@
-ghost use Rattle.std.specs.Prelude.{◌≡◌, ◌-◌, ◌≤◌, ◌^◌, ◌<◌, length, min, take, is_some, option_map, unwrap_or, true, OnOk, OnErr, IfOk, IfErr, IfSome, IfNone};
+ghost use Rattle.std.specs.Prelude.{◌≡◌, ◌-◌, ◌≤◌, ◌^◌, ◌<◌, length, min, take, is_some, unwrap_or, true, OnOk, OnErr, IfOk, IfErr, IfSome, IfNone};
 ghost use Rattle.qs_ranges.specs.Numbers.{MAX_VARINT};
 ghost use Rattle.qs_send.specs.Lane.{Sending, new_lane, accepted, refusal, reset_refusal, answer_of, write_lane, finish_lane, reset_lane, stop_taken, allow_lane, buffer_lane};
 ghost use Rattle.qs_send.specs.Sound.{IsLawful};
 ghost use Rattle.qs_machine.specs.Tables.{table, with_table, lookup, open_to, total, type_of};
-ghost use Rattle.qs_machine.specs.Asking.{kept_on, stop_of};
-ghost use Rattle.qs_machine.specs.Reports.{send_report};
+ghost use Rattle.qs_machine.specs.Asking.{kept_on};
 ghost use Rattle.qs_machine.specs.Sums.{or_none};
 ghost use Rattle.qs_conn.specs.Ended.{send_over};
 ghost use Rattle.qs_conn.specs.Rooms.{IsBuffer, IsSumOf, lists};
@@ -19,7 +18,6 @@ use crate::send_lanes::{SendLanes, Setting};
 use crate::send_marks::{Moves, Task};
 use crate::told::ToldItems;
 use halves::{half_of, is_open};
-use qs_calls::SendReport;
 use qs_ranges::NoMemory;
 use qs_send::{LostRecords, Piece, Records, SendFault, SendState, SendView};
 use qs_wire::StreamId;
@@ -134,6 +132,7 @@ impl Outbox {
     pub(crate) fn half(&self, stream: StreamId) -> Option<SendView<'_>>
         ensures found { IfSome result (λ s. lookup self.now.sends stream ≡ Some s.lane) }
         ensures lawful { IfSome result IsLawful }
+        ensures sending { IfSome result (HasSending self.now stream) }
         ensures none { IfNone result (lookup self.now.sends stream ≡ None) }
     {
         if !is_open(&self.types, stream) {
@@ -142,12 +141,6 @@ impl Outbox {
         let half = half_of(&self.types, stream);
         half.learn_lawful();
         Some(half)
-    }
-
-    pub(crate) fn count(&self, stream: StreamId) -> usize
-        ensures { result ≡ length (table self.now.sends (type_of stream)) }
-    {
-        self.count_of(type_of(stream))
     }
 
     #[tactic(auto, using(qs_machine::proofs::TableEdits::table_at, crate::proofs::Outboxes::count_lanes))]
@@ -167,22 +160,7 @@ impl Outbox {
         let Some(half) = self.half(stream) else {
             return false;
         };
-        half.learn_lawful();
         matches!(half.state(), SendState::DataRecvd | SendState::ResetRecvd)
-    }
-
-    /// How a stream's sending half stands, where it is open.
-    pub(crate) fn report(&self, stream: StreamId) -> Option<SendReport>
-        ensures { result ≡ option_map send_report (lookup self.now.sends stream) }
-    {
-        let half = self.half(stream)?;
-        Some(SendReport {
-            state: half.state(),
-            written: half.written(),
-            final_size: half.final_size(),
-            reset_code: half.reset_code(),
-            limit: half.limit(),
-        })
     }
 
     /// The number of the next packet.
@@ -318,13 +296,6 @@ impl Outbox {
                 half.stopped(code);
             }
         });
-    }
-
-    pub(crate) fn stop_code(&self, stream: StreamId) -> Option<u64>
-        ensures { result ≡ stop_of (lookup self.now.sends stream) }
-    {
-        let half = self.half(stream)?;
-        half.stop_code()
     }
 
     pub(crate) fn set_buffer(&mut self, stream: StreamId, size: u32)

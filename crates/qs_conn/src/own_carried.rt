@@ -1,4 +1,4 @@
-ghost use Rattle.std.specs.Prelude.{◌≡◌, ◌↔◌, IsTrue, true, false, None, replicate};
+ghost use Rattle.std.specs.Prelude.{◌≡◌, ◌↔◌, IsTrue, true, false, None, IfSome, replicate};
 ghost use Rattle.qs_send.specs.PieceCodes.{dir_number};
 ghost use Rattle.qs_machine.specs.Outgoing.{IsAckedOut};
 ghost use Rattle.qs_conn.specs.OwnCarried.{own_place, own_value, has_own, own_with, own_without};
@@ -11,8 +11,8 @@ use std::marker::Model;
 /// A limit and two counts of streams for the peer, and what this endpoint lacks of its own three.
 pub(crate) const OWN_ITEMS: usize = 6;
 
-/// For each kind the value that went into a packet last, while that packet is outstanding. A value instead of a mark, which would have to
-/// go as a limit rises: nothing outstanding is above the present value, so that is outstanding only if it is the one that is kept.
+/// For each kind the value that went into a packet last, unless that was lost. A value instead of a mark, which would have to be set as a
+/// limit rises: no packet told more than the present value, so nothing is due if that is the one that is kept.
 #[derive(Drop)]
 pub(crate) struct OwnCarried {
     values: [Option<u64>; 6],
@@ -40,6 +40,7 @@ impl OwnCarried {
         }
     }
 
+    #[inline(always)]
     pub(crate) fn has(&self, item: &Item) -> bool
         ensures { result ≡ has_own item.now self.now }
     {
@@ -48,6 +49,17 @@ impl OwnCarried {
             return false;
         }
         matches!(self.values[place], Some(value) if value == value_of(item))
+    }
+
+    /// The same of an item, where there is one.
+    #[inline(always)]
+    pub(crate) fn has_told(&self, item: Option<Item>) -> bool
+        ensures { result ≡ true → IfSome item (λ i. has_own i self.now ≡ true) }
+    {
+        match item {
+            Some(item) => self.has(&item),
+            None => true,
+        }
     }
 
     pub(crate) fn is_told(&self, outbox: &Outbox, item: &Item) -> bool
@@ -78,6 +90,7 @@ impl OwnCarried {
     }
 }
 
+#[inline(always)]
 fn place_of(item: &Item) -> usize
     ensures { result ≡ own_place item.now }
 {
@@ -90,6 +103,7 @@ fn place_of(item: &Item) -> usize
     }
 }
 
+#[inline(always)]
 fn value_of(item: &Item) -> u64
     ensures { result ≡ own_value item.now }
 {
@@ -102,6 +116,7 @@ fn value_of(item: &Item) -> u64
     }
 }
 
+#[inline(always)]
 fn number_of(dir: Dir) -> usize
     ensures { result ≡ dir_number dir }
 {

@@ -184,8 +184,7 @@ impl RecvLanes {
     /// The marks of the lanes that have such an answer for their owner.
     #[inline(always)]
     pub(crate) fn marks(&self, task: RecvTask) -> &Marks
-        ensures value { (i : ℕ) → is_marked result.now i ≡ has_one task (slice_get self.now i) }
-        ensures few { length result.now ≤ 2 ^ 60 }
+        ensures { (i : ℕ) → is_marked result.now i ≡ has_one task (slice_get self.now i) }
     {
         self.news.marks(task)
     }

@@ -3,9 +3,6 @@ ghost use Rattle.qs_ranges.specs.Numbers.{MAX_VARINT};
 ghost use Rattle.qs_recv.specs.Lane.{RecvLane, new_lane, check_stream, check_reset, check_bytes, highest, taken, take_stream, take_reset, read_answer, bytes_read, after_read, raise, stop, stop_and_discard, MAX_WINDOW, set_window};
 ghost use Rattle.qs_machine.specs.Tables.{no_streams, table, with_table, lookup, updated, open_to, each, total, type_of};
 ghost use Rattle.qs_machine.specs.Memory.{HasNews};
-ghost use Rattle.qs_machine.specs.Changes.{half_changes, reset_changes};
-ghost use Rattle.qs_recv.specs.Changes.{stream_changes};
-ghost use Rattle.qs_recv.specs.Peek.{IsPeek};
 ghost use Rattle.qs_machine.specs.Reports.{recv_report};
 ghost use Rattle.qs_machine.specs.Verdicts.{or_new};
 ghost use Rattle.qs_machine.specs.Sums.{tally_on};
@@ -13,8 +10,7 @@ ghost use Rattle.qs_conn.specs.Ended.{recv_over};
 ghost use Rattle.qs_conn.specs.Rooms.{IsRoom, IsSumOf, lists};
 ghost use Rattle.qs_conn.specs.Layers.{limit_to_tell, stop_to_tell};
 ghost use Rattle.qs_machine.specs.News.{IsLeast, IsHeld};
-ghost use Rattle.qs_conn.specs.Marks.{is_marked, IsHeldOf, IsUntold, IsUntoldOf};
-ghost use Rattle.qs_conn.specs.declared.recv_marks.RecvTask.TheVariants as tasks;
+ghost use Rattle.qs_conn.specs.Marks.{is_marked, IsUntold, IsUntoldOf};
 ghost use Rattle.qs_conn.specs.Due.{StayMarked};
 ghost use Rattle.qs_conn.specs.RecvEdits.{OnceInto, OnceTakesInto, LeavesCalm, IsTallyOf, added};
 ghost use Rattle.qs_conn.specs.Edits.{IsEditedIn};
@@ -22,7 +18,7 @@ ghost use Rattle.qs_conn.specs.RecvTasks.{HasOne, HasNone, has_one};
 
 use crate::holds::sum_held;
 use crate::marks::Marks;
-use crate::places::{Place, index_from, index_of, least_stream, type_of};
+use crate::places::{Place, index_of, least_stream, type_of};
 use crate::recv_lanes::{Half, RecvLanes};
 use crate::recv_marks::RecvTask;
 use crate::stream_marks::StreamMarks;
@@ -30,7 +26,7 @@ use crate::told_streams::ToldStreams;
 use qs_calls::RecvReport;
 use qs_machine::Tally;
 use qs_ranges::NoMemory;
-use qs_recv::{Peek, Read, RecvState, Share};
+use qs_recv::{Read, RecvState, Share};
 use qs_wire::StreamId;
 use std::alloc::Global;
 use std::marker::Model;
@@ -86,31 +82,6 @@ impl RecvTables {
     {
         let lanes = &self.types[stream.stream_type];
         lanes.half(stream.index)
-    }
-
-    pub(crate) fn stream_changes(&self, stream: StreamId, offset: u64, len: u64, fin: bool) -> bool
-        requires { offset + len ≤ MAX_VARINT }
-        ensures { result ≡ half_changes (λ l. stream_changes l offset len fin) (lookup self.now stream) }
-    {
-        let Some(half) = self.half(Place::of(stream)) else {
-            return false;
-        };
-        half.stream_changes(offset, len, fin)
-    }
-
-    pub(crate) fn reset_changes(&self, stream: StreamId) -> bool
-        ensures { result ≡ half_changes reset_changes (lookup self.now stream) }
-    {
-        let Some(half) = self.half(Place::of(stream)) else {
-            return false;
-        };
-        matches!(half.state(), RecvState::Recv | RecvState::SizeKnown)
-    }
-
-    pub(crate) fn count(&self, stream: StreamId) -> usize
-        ensures { result ≡ length (table self.now (type_of stream)) }
-    {
-        self.count_of(type_of(stream))
     }
 
     #[tactic(auto, using(qs_machine::proofs::TableEdits::table_at))]
@@ -210,15 +181,6 @@ impl RecvTables {
         readable.has(index) || ended.has(index)
     }
 
-    pub(crate) fn is_readable(&self, stream: StreamId) -> bool
-        ensures { result ≡ has_one tasks.Readable (lookup self.now stream) }
-    {
-        match self.half(Place::of(stream)) {
-            Some(half) => half.is_readable(),
-            None => false,
-        }
-    }
-
     pub(crate) fn read(&mut self, stream: StreamId, into: &mut [u8]) -> Read
         requires open { is_some (lookup self.old stream) ≡ true }
         ensures answer { result ≡ read_answer (or_new (lookup self.old stream) 0 Share.Half) (length into.old) }
@@ -234,14 +196,6 @@ impl RecvTables {
         ensures after { self.new ≡ updated self.old stream (λ l. after_read l most) (lookup self.old stream) }
     {
         self.edit(Place::of(stream), &mut [], |half, _into| half.skip(most))
-    }
-
-    pub(crate) fn peek(&self, stream: StreamId) -> Peek<'_>
-        requires { is_some (lookup self.now stream) ≡ true }
-        ensures { IsPeek (or_new (lookup self.now stream) 0 Share.Half) result }
-    {
-        let half = self.half(Place::of(stream)).unwrap();
-        half.peek()
     }
 
     pub(crate) fn stop(&mut self, stream: StreamId, code: u64)
@@ -308,13 +262,6 @@ impl RecvTables {
         })
     }
 
-    pub(crate) fn taken(&self, stream: StreamId) -> Option<u64>
-        ensures { result ≡ option_map taken (lookup self.now stream) }
-    {
-        let half = self.half(Place::of(stream))?;
-        Some(half.sizes().taken)
-    }
-
     pub(crate) fn limit_of(&self, stream: StreamId) -> Option<u64>
         ensures { result ≡ option_map (λ l. l.limit) (lookup self.now stream) }
     {
@@ -346,30 +293,16 @@ impl RecvTables {
         }
     }
 
-    #[tactic(auto, using(crate::proofs::Marked::kinds_four))]
     pub(crate) fn next_with(&self, task: RecvTask, from: u64) -> Option<StreamId>
         requires { from ≤ 2 ^ 62 }
         ensures { IsLeast (IsHeld (HasOne task) self.now) from result }
     {
         least_stream(
-            self.next_with_of(task, 0, from),
-            self.next_with_of(task, 1, from),
-            self.next_with_of(task, 2, from),
-            self.next_with_of(task, 3, from),
+            self.marks(task, 0).next_stream(0, from),
+            self.marks(task, 1).next_stream(1, from),
+            self.marks(task, 2).next_stream(2, from),
+            self.marks(task, 3).next_stream(3, from),
         )
-    }
-
-    fn next_with_of(&self, task: RecvTask, stream_type: usize, from: u64) -> Option<u64>
-        requires stream_type { stream_type < 4 }
-        requires from { from ≤ 2 ^ 62 }
-        ensures least { IsLeast (IsHeldOf (HasOne task) self.now stream_type) from result }
-        ensures small { IfSome result (λ n. n < 2 ^ 62) }
-    {
-        let marks = self.marks(task, stream_type);
-        match marks.next(index_from(stream_type, from)) {
-            Some(index) => Some((index * 4 + stream_type) as u64),
-            None => None,
-        }
     }
 
     #[inline(always)]
@@ -402,8 +335,7 @@ impl RecvTables {
     #[inline(always)]
     pub(crate) fn marks(&self, task: RecvTask, stream_type: usize) -> &Marks
         requires { stream_type < 4 }
-        ensures value { (n : ℕ) → type_of n ≡ stream_type → is_marked result.now (n / 4) ≡ has_one task (lookup self.now n) }
-        ensures few { length result.now ≤ 2 ^ 60 }
+        ensures { (n : ℕ) → type_of n ≡ stream_type → is_marked result.now (n / 4) ≡ has_one task (lookup self.now n) }
     {
         let lanes = &self.types[stream_type];
         lanes.marks(task)

@@ -239,8 +239,7 @@ impl SendLanes {
 
     /// The marks of the halves that came to their end.
     pub(crate) fn ended_marks(&self) -> &Marks
-        ensures none { (i : ℕ) (s : Sending) → slice_get self.now i ≡ Some s → is_marked result.now i ≡ false → IsQuiet tasks.Ended s }
-        ensures few { length result.now ≤ 2 ^ 60 }
+        ensures { (i : ℕ) (s : Sending) → slice_get self.now i ≡ Some s → is_marked result.now i ≡ false → IsQuiet tasks.Ended s }
     {
         self.marks.of(Task::Ended)
     }

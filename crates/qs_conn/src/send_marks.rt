@@ -1,4 +1,4 @@
-ghost use Rattle.std.specs.Prelude.{◌≡◌, ◌+◌, ◌<◌, ◌^◌, [], false, slice_set, OnOk};
+ghost use Rattle.std.specs.Prelude.{◌≡◌, ◌+◌, ◌<◌, ◌^◌, [], false, slice_set, IfSome, OnOk};
 ghost use Rattle.qs_machine.specs.Credit.{send_ended};
 ghost use Rattle.qs_conn.specs.Marks.{IsClear, is_marked, HasRoom, IsClearedFrom, IsNextMark, IsWider};
 ghost use Rattle.qs_conn.specs.Tasks.{AreMarkedBefore, begins, has, is_due_below, marks_of, may_end, sought_of};
@@ -160,7 +160,8 @@ impl SendMarks {
 
     #[inline(always)]
     pub(crate) fn next(&self, task: Task, from: usize) -> Option<usize>
-        ensures { IsNextMark (marks_of self.now task) from result }
+        ensures next { IsNextMark (marks_of self.now task) from result }
+        ensures small { IfSome result (λ n. n < 2 ^ 60) }
     {
         self.of(task).next(from)
     }
@@ -168,7 +169,8 @@ impl SendMarks {
     #[inline(always)]
     #[tactic(auto, using(crate::proofs::Hearing::none_told, crate::proofs::Hearing::asked_untold, crate::proofs::Hearing::asked_told))]
     pub(crate) fn next_sought(&self, search: Search, told: &ToldMarks, from: usize) -> Option<usize>
-        ensures { IsNextMark (sought_of search (marks_of self.now search.task) told.now) from result }
+        ensures next { IsNextMark (sought_of search (marks_of self.now search.task) told.now) from result }
+        ensures small { IfSome result (λ n. n < 2 ^ 60) }
     {
         let marks = self.of(search.task);
         if !search.is_told {

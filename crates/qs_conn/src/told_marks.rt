@@ -1,4 +1,4 @@
-ghost use Rattle.std.specs.Prelude.{◌≡◌, ◌++◌, ◌+◌, ◌-◌, ◌/◌, ◌<◌, ◌^◌, [], true, false, length, slice_get, slice_set, replicate, None, OnOk, OnErr};
+ghost use Rattle.std.specs.Prelude.{◌≡◌, ◌++◌, ◌+◌, ◌-◌, ◌/◌, ◌<◌, ◌≤◌, ◌^◌, [], true, false, length, slice_get, slice_set, replicate, None, OnOk, OnErr};
 ghost use Rattle.qs_conn.specs.Marks.{IsClear, is_marked, IsMarkedBeside, IsUnmarkedBeside, AreFull, AreMarkedBelow};
 
 use crate::bits::{Bits, FLAGS_PER_WORD, Row};
@@ -56,6 +56,7 @@ impl ToldMarks {
     }
 
     pub(crate) fn open_to(&mut self, count: usize) -> Result<(), NoMemory>
+        requires { count ≤ 2 ^ 60 }
         ensures ok { OnOk result (self.new ≡ self.old ++ replicate (count - length self.old) false) }
         ensures err { OnErr result (self.new ≡ self.old) }
         ensures asks { OnErr result (length self.old < count) }

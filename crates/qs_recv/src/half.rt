@@ -98,8 +98,8 @@ pub enum RecvState {
 /// The receiving half of a stream, over any assembly. Offsets and sizes count bytes from the start of the stream.
 ///
 /// A half is kept until its connection ends, so what one takes that is over counts for every stream that ever was. Its record has 24 bytes.
-/// One that was read to its end stands in it. One that never carried a byte or was reset, and one that was stopped and has no gap, takes a
-/// box of 64 bytes beside; and one that may store bytes a larger one, with its assembly.
+/// One that was read to its end stands in it. One that was reset, and one that was stopped and has no gap, takes a box of 64 bytes beside;
+/// and one that may store bytes a larger one, with its assembly.
 #[derive(Drop)]
 pub struct RecvHalf<A: Assembly> {
     alloc: Global,
@@ -139,12 +139,14 @@ impl<A: Assembly> RecvHalf<A> {
         requires small { window ≤ MAX_WINDOW }
         ensures { IfOk result (λ half. half ≡ new_lane window share) }
     {
-        let Ok(rest) = Box::new(alloc, Rest::new(window, share)) else {
+        let rest = Rest::new(window, share);
+        let fresh: LiveHalf<A> = LiveHalf::revived(alloc, &rest);
+        let Ok(boxed) = Box::new(alloc, fresh) else {
             return Err(NoMemory);
         };
         Ok(RecvHalf {
             alloc,
-            parts: Parts::Kept(Kept::Rest(rest)),
+            parts: Parts::Live(boxed),
         })
     }
 

@@ -65,6 +65,7 @@ impl Hearing {
         }
     }
 
+    #[inline]
     pub(super) fn next(&mut self, end: &conn::Endpoint) -> Result<Option<conn::News>, NoMemory> {
         self.catch_up(end)?;
         self.note_said(end)?;

@@ -12,8 +12,10 @@ ghost use Rattle.qs_machine.specs.Alone.{is_ours, alone, closed_fault, noted_fau
 use super::receiving::noted_of_us;
 use super::{Endpoint, is_uni};
 use crate::newly_told::Silent;
+use crate::places::Place;
 use crate::seen::{SeenFrame, has_text, is_ours, seen, type_number};
 use qs_calls::{Closed, Closer, Closing, NotedClose, TakeFault, Taken};
+use qs_recv::RecvState;
 use qs_send::Item;
 use qs_wire::{Frame, StreamId};
 
@@ -169,7 +171,10 @@ impl Endpoint {
                     return true;
                 }
                 let len = bytes.len() as u64;
-                self.core.recvs.stream_changes(stream.id, offset, len, fin)
+                match self.core.recvs.half(stream) {
+                    Some(half) => half.stream_changes(offset, len, fin),
+                    None => false,
+                }
             }
             SeenFrame::Control(item) => self.item_changes(item),
             SeenFrame::Ack { .. } | SeenFrame::Close(_) | SeenFrame::Plain { .. } => false,
@@ -183,17 +188,26 @@ impl Endpoint {
             Item::MaxData { maximum } => self.core.limits.known_data < maximum,
             Item::MaxStreams { dir, count } => self.core.limits.known_streams.of(dir) < count,
             Item::MaxStreamData { stream, maximum } => {
-                self.is_yet_to_open(stream) || self.core.outbox.limit_rises(stream, maximum)
+                self.is_yet_to_open(stream)
+                    || matches!(self.core.outbox.half(stream), Some(half) if half.limit() < maximum)
             }
             Item::ResetStream { stream, .. } => {
-                self.is_yet_to_open(stream) || self.core.recvs.reset_changes(stream)
+                self.is_yet_to_open(stream)
+                    || match self.core.recvs.half(Place::of(stream)) {
+                        Some(half) => matches!(
+                            half.state(),
+                            RecvState::Recv | RecvState::SizeKnown
+                        ),
+                        None => false,
+                    }
             }
             Item::StopSending { stream, .. } => {
                 self.is_yet_to_open(stream)
-                    || self
-                        .core
-                        .outbox
-                        .stop_changes(stream, self.core.limits.tuning.answers_stops)
+                    || match self.core.outbox.half(stream) {
+                        Some(half) if self.core.limits.tuning.answers_stops => half.asked_changes(),
+                        Some(half) => half.stop_changes(),
+                        None => false,
+                    }
             }
             Item::StreamDataBlocked { stream, .. } => self.is_yet_to_open(stream),
             Item::DataBlocked { .. } | Item::StreamsBlocked { .. } => false,

@@ -7,7 +7,8 @@ ghost use Rattle.qs_machine.specs.Sums.{or_none};
 ghost use Rattle.qs_conn.specs.Sending.{credit_room};
 
 use super::Endpoint;
-use qs_calls::{Closed, NotedClose, UseFault};
+use crate::places::Place;
+use qs_calls::{Closed, MAX_VARINT, NotedClose, UseFault};
 use qs_recv::Peek;
 use qs_wire::{Dir, StreamId};
 
@@ -65,7 +66,8 @@ impl Endpoint {
         if let Some(fault) = self.no_reader(stream) {
             return Err(fault);
         }
-        Ok(self.core.recvs.peek(stream))
+        let half = self.core.recvs.half(Place::of(stream)).unwrap();
+        Ok(half.peek())
     }
 
     /// How many bytes of a stream count as consumed, which its limit follows: those that were read, or all that arrived once it was
@@ -74,7 +76,8 @@ impl Endpoint {
     pub fn taken(&self, stream: StreamId) -> Option<u64>
         ensures { result ≡ taken self.now stream }
     {
-        self.core.recvs.taken(stream)
+        let half = self.core.recvs.half(Place::of(stream))?;
+        Some(half.sizes().taken)
     }
 
     /// How many bytes of all streams count as consumed: the sum of `taken` over all, which the connection's limit follows (RFC 9000,
@@ -113,8 +116,17 @@ impl Endpoint {
     pub fn is_blocked(&self, stream: StreamId) -> bool
         ensures { result ≡ is_blocked self.now stream }
     {
+        let Some(half) = self.core.outbox.half(stream) else {
+            return false;
+        };
+        if let Some(_code) = half.reset_code() {
+            return false;
+        }
+        if half.sent_end() >= half.written() {
+            return false;
+        }
         let is_used_up = self.core.outbox.sent_sum() == self.core.limits.known_data;
-        self.closed.is_none() && self.core.outbox.waits_for_credit(stream, is_used_up)
+        self.closed.is_none() && (half.sent_end() == half.limit() || is_used_up)
     }
 
     /// How many new bytes the peer's limit on the connection permits (RFC 9000, section 4.1). Lost bytes need no credit, and written ones
@@ -147,7 +159,13 @@ impl Endpoint {
     fn credit_room(&self, stream: StreamId) -> u64
         ensures { result ≡ credit_room self.now (send_lane self.now stream) }
     {
-        let room = self.core.outbox.room(stream);
+        let Some(half) = self.core.outbox.half(stream) else {
+            return 0;
+        };
+        if half.refusal().is_some() {
+            return 0;
+        }
+        let room = (half.room() as u64).min(MAX_VARINT - half.written());
         if self.core.limits.tuning.within_credit {
             return room.min(self.credit_for(stream));
         }
@@ -186,7 +204,10 @@ impl Endpoint {
         ensures { result ≡ credit_for self.now (or_none (send_lane self.now stream)) }
     {
         let all = self.credit_left().saturating_sub(self.unsent_sum());
-        all.min(self.core.outbox.limit_left(stream))
+        let Some(half) = self.core.outbox.half(stream) else {
+            return 0;
+        };
+        all.min(half.limit().saturating_sub(half.written()))
     }
 
     /// How many bytes of a stream weren't sent yet: 0 after a reset, since none will be (RFC 9000, sections 2.2 and 3.1), and if the stream
@@ -194,7 +215,13 @@ impl Endpoint {
     pub fn unsent(&self, stream: StreamId) -> u64
         ensures { result ≡ unsent self.now stream }
     {
-        self.core.outbox.unsent(stream)
+        let Some(half) = self.core.outbox.half(stream) else {
+            return 0;
+        };
+        if let Some(_code) = half.reset_code() {
+            return 0;
+        }
+        half.written().saturating_sub(half.sent_end())
     }
 
     /// The lowest offset of a stream that isn't acknowledged, in bytes from its start: all below it are (RFC 9000, section 13.3). If it is
@@ -202,7 +229,8 @@ impl Endpoint {
     pub fn acked_below(&self, stream: StreamId) -> Option<u64>
         ensures { result ≡ acked_below self.now stream }
     {
-        self.core.outbox.acked_below(stream)
+        let half = self.core.outbox.half(stream)?;
+        Some(half.unacked_from())
     }
 
     /// The code of the peer's first STOP_SENDING that came while the sending half could be reset; `None` if there was none. It stays,
@@ -210,7 +238,8 @@ impl Endpoint {
     pub fn stopped_with(&self, stream: StreamId) -> Option<u64>
         ensures { result ≡ stopped_with self.now stream }
     {
-        self.core.outbox.stop_code(stream)
+        let half = self.core.outbox.half(stream)?;
+        half.stop_code()
     }
 
     /// The lowest number from one on of an outstanding packet: it was made, asks for an ACK, and is neither acknowledged nor declared lost

@@ -1,4 +1,4 @@
-ghost use Rattle.std.specs.Prelude.{◌≡◌, ◌≤◌, ◌<◌, ◌^◌, ◌/◌, ℕ, true, false, length, IfSome};
+ghost use Rattle.std.specs.Prelude.{◌≡◌, ◌≤◌, ◌<◌, ◌^◌, ◌/◌, ℕ, true, false, IfSome};
 ghost use Rattle.qs_machine.specs.Tables.{type_of};
 ghost use Rattle.qs_machine.specs.Heard.{is_told};
 ghost use Rattle.qs_machine.specs.News.{IsLeast, IsEnded};
@@ -83,8 +83,7 @@ impl Endpoint {
     #[inline(always)]
     fn ended_marks(&self, stream_type: usize) -> (&Marks, &Marks)
         requires { stream_type < 4 }
-        ensures none { (n : ℕ) → type_of n ≡ stream_type → is_marked (both result.0.now result.1.now) (n / 4) ≡ false → IsEnded self.now n → ⊥ }
-        ensures few { length result.0.now ≤ 2 ^ 60 }
+        ensures { (n : ℕ) → type_of n ≡ stream_type → is_marked (both result.0.now result.1.now) (n / 4) ≡ false → IsEnded self.now n → ⊥ }
     {
         let receiving = self.core.recvs.marks(RecvTask::Ended, stream_type);
         let sending = self.core.outbox.ended_marks(stream_type);

@@ -13,8 +13,9 @@ ghost use Rattle.qs_conn.specs.Sending.{TakesAlone};
 
 use super::Endpoint;
 use crate::by_dir::ByDir;
-use crate::places::lesser;
+use crate::places::{index_of, lesser, type_of};
 use crate::recv_marks::RecvTask;
+use crate::send_marks::{Search, Task};
 use crate::told_streams::ToldStreams;
 use qs_calls::MAX_VARINT;
 use qs_wire::{Dir, StreamId};
@@ -62,9 +63,17 @@ impl Endpoint {
             return None;
         }
         if self.core.limits.tuning.within_credit {
-            return self.core.outbox.next_short_funded(short);
+            let search = Search {
+                task: Task::Funded,
+                is_told: true,
+            };
+            return self.core.outbox.next_sought(search, short);
         }
-        self.core.outbox.next_short(short)
+        let search = Search {
+            task: Task::Writable,
+            is_told: true,
+        };
+        self.core.outbox.next_sought(search, short)
     }
 
     // What holds all streams back is asked once, and not of each stream.
@@ -93,13 +102,21 @@ impl Endpoint {
     pub(crate) fn next_stopped_untold(&self, told: &ToldStreams) -> Option<StreamId>
         ensures { IsLeast (λ n. (is_some (stopped_with self.now n) ≡ true) × (is_told told.now n ≡ false)) 0 result }
     {
-        self.core.outbox.next_stopped_untold(told)
+        let search = Search {
+            task: Task::Stopped,
+            is_told: false,
+        };
+        self.core.outbox.next_sought(search, told)
     }
 
     pub(crate) fn next_sent_untold(&self, told: &ToldStreams) -> Option<StreamId>
         ensures { IsLeast (λ n. IsHeld (λ l. send_ended l ≡ true) self.now.sends n × (is_told told.now n ≡ false)) 0 result }
     {
-        self.core.outbox.next_ended_untold(told)
+        let search = Search {
+            task: Task::Ended,
+            is_told: false,
+        };
+        self.core.outbox.next_sought(search, told)
     }
 
     /// Of the directions in which an open was blocked: others nobody waits for.
@@ -140,7 +157,8 @@ impl Endpoint {
         if self.is_read_no_more() {
             return false;
         }
-        self.core.recvs.is_readable(stream)
+        let readable = self.core.recvs.marks(RecvTask::Readable, type_of(stream));
+        readable.has(index_of(stream))
     }
 
     pub(crate) fn was_reset_acked(&self, stream: StreamId) -> bool

@@ -12,6 +12,7 @@ ghost use Rattle.qs_machine.specs.Owner.{OpenStep, AcceptStep, AcceptOfStep, Acc
 
 use super::{Endpoint, is_uni, role_bit};
 use crate::outbox::Outbox;
+use crate::places::type_of;
 use crate::recv_tables::RecvTables;
 use qs_calls::{OpenFault, Share};
 use qs_ranges::NoMemory;
@@ -132,7 +133,7 @@ impl Endpoint {
         let share = self.core.limits.tuning.credit_step;
         let buffer = self.send_buffer();
         self.core.outbox.learn_of_open();
-        let before = self.core.outbox.count(stream);
+        let before = self.core.outbox.count_of(type_of(stream));
         self.core.due.open_to(stream)?;
         open_sends(
             &mut self.core.outbox,

@@ -12,7 +12,7 @@ ghost use Rattle.qs_machine.specs.Reports.{lane_report, own_closing};
 ghost use Rattle.qs_conn.specs.Layers.{no_sender, no_receiver};
 
 use super::Endpoint;
-use qs_calls::{Closed, Closing, Consumed, LaneReport, UseFault};
+use qs_calls::{Closed, Closing, Consumed, LaneReport, SendReport, UseFault};
 use qs_recv::Read;
 use qs_send::SendFault;
 use qs_wire::StreamId;
@@ -225,10 +225,17 @@ impl Endpoint {
     pub fn lane_report(&self, stream: StreamId) -> Option<LaneReport>
         ensures { result ≡ lane_report self.now stream }
     {
-        match (
-            self.core.outbox.report(stream),
-            self.core.recvs.report(stream),
-        ) {
+        let send = match self.core.outbox.half(stream) {
+            Some(half) => Some(SendReport {
+                state: half.state(),
+                written: half.written(),
+                final_size: half.final_size(),
+                reset_code: half.reset_code(),
+                limit: half.limit(),
+            }),
+            None => None,
+        };
+        match (send, self.core.recvs.report(stream)) {
             (None, None) => None,
             (send, recv) => Some(LaneReport { send, recv }),
         }

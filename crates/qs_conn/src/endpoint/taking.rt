@@ -16,7 +16,7 @@ ghost use Rattle.qs_conn.specs.Seen.{view_seen, SeenFits};
 
 use super::Endpoint;
 use crate::newly_told::Told;
-use crate::places::Place;
+use crate::places::{Place, type_of};
 use crate::seen::SeenFrame;
 use qs_ranges::NoMemory;
 use qs_send::Item;
@@ -208,8 +208,9 @@ impl Endpoint {
         ensures asks { OnErr result (MayRunOut self.old (Stream stream offset bytes.now fin)) }
     {
         self.core.outbox.learn_of_open();
-        let sends = self.core.outbox.count(stream);
-        let recvs = self.core.recvs.count(stream);
+        let stream_type = type_of(stream);
+        let sends = self.core.outbox.count_of(stream_type);
+        let recvs = self.core.recvs.count_of(stream_type);
         self.open_by_peer(stream)?;
         let was = self.core.is_over(stream);
         let place = Place::of(stream);

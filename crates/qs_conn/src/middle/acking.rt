@@ -1,11 +1,10 @@
-ghost use Rattle.std.specs.Prelude.{if◌then◌else◌, ◌≡◌, ◌<◌, ◌≤◌, ◌-◌, ◌^◌, false, Some, Err, IfOk, IfErr, OnOk, OnErr};
+ghost use Rattle.std.specs.Prelude.{◌≡◌, ◌<◌, ◌≤◌, ◌-◌, ◌^◌, false, Some, Err, IfOk, IfErr, OnOk, OnErr};
 ghost use Rattle.std.specs.FinMap as fmap;
 ghost use Rattle.qs_wire.specs.Varint.{numbers_of};
 ghost use Rattle.qs_wire.specs.Layout.{ack_ranges_of};
 ghost use Rattle.qs_machine.specs.Memory.{PieceMayRunOut};
 ghost use Rattle.qs_machine.specs.Outgoing.{first_piece, first_acked_out, acked_at};
 ghost use Rattle.qs_conn.specs.Middle.{IsAtRest, KeepsStreams};
-ghost use Rattle.qs_conn.specs.OwnCarried.{own_left};
 ghost use Rattle.qs_conn.specs.Ended.{half_of};
 ghost use Rattle.std.specs.List.{FoldsTo};
 ghost use Rattle.qs_conn.specs.Rows.{AcksFrom, AcksRow, IsRowAt, MayRunOutAt, numbers_down};
@@ -154,7 +153,6 @@ impl Core {
         ensures err { OnErr result (self.new.outbox ≡ self.old.outbox) }
         ensures asks { OnErr result (MayRunOutAt number row.now.stream self.old.outbox) }
     {
-        self.outbox.learn_apart();
         let was = self.is_over(row.stream);
         self.outbox.ack_row(number, row)?;
         let is = self.is_over(row.stream);
@@ -187,10 +185,8 @@ impl Core {
         ensures rest { IsAtRest self.new }
         ensures streams { KeepsStreams self.old self.new }
     {
-        self.outbox.learn_apart();
         let Some(stream) = half_of(&piece) else {
             self.outbox.ack_kept(packet, piece)?;
-            self.drop_own(packet, piece);
             return Ok(());
         };
         let was = self.is_over(stream);
@@ -198,17 +194,6 @@ impl Core {
         let is = self.is_over(stream);
         self.ended.recount(stream, was, is);
         Ok(())
-    }
-
-    fn drop_own(&mut self, packet: KeptPacket, piece: Piece)
-        ensures { self.new ≡ record self.old { own = if packet.late then self.old.own else own_left piece self.old.own } }
-    {
-        if packet.late {
-            return;
-        }
-        if let Piece::Told(item) = piece {
-            self.own.remove(&item);
-        }
     }
 }
 

@@ -161,8 +161,7 @@ impl Core {
     pub(super) fn next_marked(&self, kind: Kind, from: u64) -> Option<StreamId>
         requires core { IsCore self.now }
         requires from { from ≤ 2 ^ 62 }
-        ensures from { IfSome result (λ n. from ≤ n) }
-        ensures marked { IfSome result (λ n. is_told (marks_of kind self.now.due) n ≡ true) }
+        ensures found { IfSome result (λ n. (from ≤ n) × (is_told (marks_of kind self.now.due) n ≡ true)) }
         ensures idle { (n : ℕ) (e : End) → from ≤ n → IsBefore n result → IsIdle (end_of self.now e) (slot_at kind n) }
     {
         self.due.marks(kind).next(from)

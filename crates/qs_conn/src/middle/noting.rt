@@ -40,7 +40,13 @@ impl Core {
         ensures same { self.new ≡ record self.old { due = self.new.due } }
         ensures noted { IsNotedBlock (IsBlockedBy count (lookup self.old.outbox.sends stream)) stream self.old.due self.new.due }
     {
-        if self.outbox.is_blocked_by(stream, count) {
+        let Some(limit) = self.outbox.blocked_at(stream) else {
+            return;
+        };
+        let Some(half) = self.outbox.half(stream) else {
+            return;
+        };
+        if half.written() - limit <= count as u64 {
             self.due.blocks.set(stream, true);
         }
     }
@@ -110,7 +116,7 @@ impl Core {
                 matches!(self.recvs.limit_of(stream), Some(present) if present == maximum)
             }
             Item::StreamDataBlocked { stream, limit } => {
-                matches!(self.outbox.limit_of(stream), Some(present) if present == limit)
+                matches!(self.outbox.half(stream), Some(half) if half.limit() == limit)
             }
             _ => true,
         }

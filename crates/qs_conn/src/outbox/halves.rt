@@ -8,7 +8,7 @@ ghost use Rattle.qs_machine.specs.News.{IsLeast, IsHeld};
 ghost use Rattle.std.specs.Fn.{FnOnceTakesAtMut, FnOnceReturnsAtMut};
 ghost use Rattle.qs_conn.specs.Edits.{IsEditedIn, LeavesStill, MaySet, OrStays, after_set};
 ghost use Rattle.qs_conn.specs.Marks.{IsHeldOf};
-ghost use Rattle.qs_conn.specs.Tasks.{IsQuiet, HasTask, IsSought, IsSoughtOf, has};
+ghost use Rattle.qs_conn.specs.Tasks.{IsQuiet, HasTask, IsSoughtOf, has};
 
 use crate::places::{index_from, index_of, least_stream, type_of};
 use crate::send_lanes::{SendLanes, Setting};
@@ -149,45 +149,22 @@ fn next_of(types: &[SendLanes; 4], task: Task, stream_type: usize, from: u64) ->
 
 /// Of a type of which no half has a mark a caller pays for one look.
 #[inline(always)]
-#[tactic(auto, using(crate::proofs::Marked::kinds_four))]
-pub(super) fn next_sought(
-    types: &[SendLanes; 4],
-    search: Search,
-    told: &ToldStreams,
-    from: u64,
-) -> Option<StreamId>
-    requires len { length types.now ≡ 4 }
-    requires from { from ≤ 2 ^ 62 }
-    ensures { IsLeast (IsSought search (tables_of types.now) told.now) from result }
-{
-    least_stream(
-        next_sought_of(types, search, told, 0, from),
-        next_sought_of(types, search, told, 1, from),
-        next_sought_of(types, search, told, 2, from),
-        next_sought_of(types, search, told, 3, from),
-    )
-}
-
-#[inline(always)]
-fn next_sought_of(
+pub(super) fn next_sought_of(
     types: &[SendLanes; 4],
     search: Search,
     told: &ToldStreams,
     stream_type: usize,
-    from: u64,
 ) -> Option<u64>
     requires len { length types.now ≡ 4 }
     requires stream_type { stream_type < 4 }
-    requires from { from ≤ 2 ^ 62 }
-    ensures least { IsLeast (IsSoughtOf search (tables_of types.now) told.now stream_type) from result }
+    ensures least { IsLeast (IsSoughtOf search (tables_of types.now) told.now stream_type) 0 result }
     ensures small { IfSome result (λ n. n < 2 ^ 62) }
 {
     let lanes = &types[stream_type];
     if !lanes.may_have(search.task) {
         return None;
     }
-    let marks = told.of_type(stream_type);
-    match lanes.next_sought(search, marks, index_from(stream_type, from)) {
+    match lanes.next_sought(search, told.of_type(stream_type), 0) {
         Some(index) => Some((index * 4 + stream_type) as u64),
         None => None,
     }

@@ -4,7 +4,7 @@ ghost use Rattle.qs_ranges.specs.Numbers.{MAX_VARINT};
 ghost use Rattle.qs_send.specs.declared.piece.Item.{Item};
 ghost use Rattle.qs_send.specs.declared.piece.Piece.TheVariants as pieces;
 ghost use Rattle.qs_send.specs.Lane.{Sending, sent_lane, bytes_of, after_sent};
-ghost use Rattle.qs_send.specs.Chunks.{has_unsent, IsDueChunk, IsHeldByRoom, HasBytes};
+ghost use Rattle.qs_send.specs.Chunks.{IsDueChunk, IsHeldByRoom, HasBytes};
 ghost use Rattle.qs_conn.specs.Filling.{last_data, pieces_at};
 ghost use Rattle.qs_conn.specs.Tasks.{IsDoneAfter, IsFree, IsQuiet, IsShort};
 ghost use Rattle.qs_conn.specs.declared.send_marks.Task.TheVariants as tasks;
@@ -51,17 +51,6 @@ impl Outbox {
         let half = half_of(&self.types, stream);
         half.learn_lawful();
         half.next_chunk(room, fresh)
-    }
-
-    #[tactic(auto, using(crate::proofs::Outboxes::half_there))]
-    pub(crate) fn has_unsent(&self, stream: StreamId) -> bool
-        requires { is_some (lookup self.now.sends stream) ≡ true }
-        ensures { (s : Sending) × HasSending self.now stream s × (result ≡ has_unsent s.lane) }
-    {
-        let _next = self.next;
-        let half = half_of(&self.types, stream);
-        half.learn_lawful();
-        half.has_unsent()
     }
 
     #[tactic(auto, using(crate::proofs::Outboxes::half_there))]
@@ -115,11 +104,15 @@ impl Outbox {
         self.spare -= 1;
     }
 
-    #[tactic(auto, using(crate::proofs::MadePackets::pieces_there))]
+    #[tactic(auto, using(crate::proofs::MadePackets::pieces_there, crate::proofs::MadePackets::last_at))]
     pub(crate) fn last_stream(&self) -> Option<StreamId>
         ensures { result ≡ last_data None (pieces_at self.now.outstanding self.now.next) }
     {
-        last_data(&self.pending)
+        // Mostly the last piece, as control frames go in first.
+        if let Some(Piece::Data { stream, .. }) = self.pending.last() {
+            return Some(*stream);
+        }
+        last_looked_for(&self.pending)
     }
 
     #[tactic(auto, using(crate::proofs::Flows::piece_there))]
@@ -194,17 +187,6 @@ fn put_pieces(records: &mut Records, number: u64, pending: &mut Vec<Piece>, room
     if let Some(piece) = pending.pop() {
         records.put_one(number, piece);
     }
-}
-
-// Mostly the last piece, as control frames go in first.
-#[tactic(auto, using(crate::proofs::MadePackets::last_at))]
-fn last_data(pieces: &[Piece]) -> Option<StreamId>
-    ensures { result ≡ last_data None pieces.now }
-{
-    if let Some(Piece::Data { stream, .. }) = pieces.last() {
-        return Some(*stream);
-    }
-    last_looked_for(pieces)
 }
 
 #[inline(never)]

@@ -1,26 +1,23 @@
-ghost use Rattle.std.specs.Prelude.{nat_lt, ◌-◌, ◌≡◌, ◌≤◌, ◌<◌, ◌^◌, ◌↔◌, ◌||◌, IsTrue, ℕ, length, IfSome, IfNone, option_map, true, false};
+ghost use Rattle.std.specs.Prelude.{◌≡◌, ◌≤◌, ◌<◌, ◌^◌, ◌↔◌, IsTrue, ℕ, Bool, IfSome, IfNone, true, false};
 ghost use Rattle.qs_ranges.specs.Numbers.{MAX_VARINT};
-ghost use Rattle.qs_send.specs.declared.piece.Piece.TheVariants as pieces;
+ghost use Rattle.qs_send.specs.Lane.{SendLane, Sending};
 ghost use Rattle.qs_machine.specs.Tables.{lookup};
 ghost use Rattle.qs_machine.specs.Sums.{or_none};
 ghost use Rattle.qs_machine.specs.Ends.{End};
 ghost use Rattle.qs_machine.specs.News.{IsLeast, IsHeld};
 ghost use Rattle.qs_machine.specs.Heard.{is_told};
-ghost use Rattle.qs_machine.specs.Changes.{half_changes};
-ghost use Rattle.qs_send.specs.Changes.{changes_by_stop};
-ghost use Rattle.qs_machine.specs.Asking.{waits_for_credit, unsent_of, acked_below_of};
 ghost use Rattle.qs_conn.specs.Marks.{IsBefore, AreEndsMarked};
-ghost use Rattle.qs_conn.specs.Sending.{IsDueOf, IsFunded, MayWrite, HasSent, WasStopped, buffer_room, limit_left};
-ghost use Rattle.qs_conn.specs.Due.{IsBlockedBy};
-ghost use Rattle.qs_conn.specs.Tasks.{IsOpen, IsQuietAt};
+ghost use Rattle.qs_conn.specs.Sending.{IsDueOf, MayWrite, HasSent};
+ghost use Rattle.qs_conn.specs.Tasks.{IsOpen, IsQuietAt, has};
 ghost use Rattle.qs_machine.specs.Outgoing.{IsAckedOut, IsAckedReset, IsBlockedAt, WantsMore, reset_by, with_outgoing};
 
 use super::Outbox;
-use super::halves::{half_of, may_have, next_sought, next_with};
+use super::halves::{half_of, may_have, next_sought_of, next_with};
 use crate::marks::Marks;
+use crate::places::least_stream;
 use crate::send_marks::{Search, Task};
 use crate::told_streams::ToldStreams;
-use qs_send::{Item, MAX_VARINT, Reset, SendState, SendView};
+use qs_send::{Item, Reset, SendState};
 use qs_wire::StreamId;
 
 impl Outbox {
@@ -71,44 +68,6 @@ impl Outbox {
         Some(limit)
     }
 
-    /// Whether the last bytes that were written, so many, brought it there.
-    pub(crate) fn is_blocked_by(&self, stream: StreamId, count: usize) -> bool
-        ensures { IsTrue result ↔ ((m : ℕ) × IsBlockedBy count (lookup self.now.sends stream) m) }
-    {
-        let Some(limit) = self.blocked_at(stream) else {
-            return false;
-        };
-        let Some(half) = self.half(stream) else {
-            return false;
-        };
-        half.written() - limit <= count as u64
-    }
-
-    pub(crate) fn limit_of(&self, stream: StreamId) -> Option<u64>
-        ensures { result ≡ option_map (λ l. l.limit) (lookup self.now.sends stream) }
-    {
-        let half = self.half(stream)?;
-        Some(half.limit())
-    }
-
-    pub(crate) fn limit_rises(&self, stream: StreamId, limit: u64) -> bool
-        ensures { result ≡ half_changes (λ l. nat_lt l.limit limit) (lookup self.now.sends stream) }
-    {
-        let Some(half) = self.half(stream) else {
-            return false;
-        };
-        half.limit() < limit
-    }
-
-    pub(crate) fn stop_changes(&self, stream: StreamId, owner_answers: bool) -> bool
-        ensures { result ≡ half_changes (changes_by_stop owner_answers) (lookup self.now.sends stream) }
-    {
-        let Some(half) = self.half(stream) else {
-            return false;
-        };
-        changed_by_stop(&half, owner_answers)
-    }
-
     pub(crate) fn wants_more(&self, stream: StreamId) -> bool
         ensures { IsTrue result ↔ WantsMore (lookup self.now.sends stream) }
     {
@@ -119,62 +78,6 @@ impl Outbox {
             return false;
         }
         half.sent_end() < half.written().min(half.limit())
-    }
-
-    /// Its limit alone, or the connection's if that is used up: lost bytes need no credit.
-    pub(crate) fn waits_for_credit(&self, stream: StreamId, is_used_up: bool) -> bool
-        ensures { result ≡ waits_for_credit is_used_up (lookup self.now.sends stream) }
-    {
-        let Some(half) = self.half(stream) else {
-            return false;
-        };
-        if let Some(_code) = half.reset_code() {
-            return false;
-        }
-        if half.sent_end() >= half.written() {
-            return false;
-        }
-        either(half.sent_end() == half.limit(), is_used_up)
-    }
-
-    pub(crate) fn room(&self, stream: StreamId) -> u64
-        ensures { result ≡ buffer_room (lookup self.now.sends stream) }
-    {
-        let Some(half) = self.half(stream) else {
-            return 0;
-        };
-        if half.refusal().is_some() {
-            return 0;
-        }
-        (half.room() as u64).min(MAX_VARINT - half.written())
-    }
-
-    pub(crate) fn limit_left(&self, stream: StreamId) -> u64
-        ensures { result ≡ limit_left (or_none (lookup self.now.sends stream)) }
-    {
-        let Some(half) = self.half(stream) else {
-            return 0;
-        };
-        half.limit().saturating_sub(half.written())
-    }
-
-    pub(crate) fn unsent(&self, stream: StreamId) -> u64
-        ensures { result ≡ unsent_of (lookup self.now.sends stream) }
-    {
-        let Some(half) = self.half(stream) else {
-            return 0;
-        };
-        if let Some(_code) = half.reset_code() {
-            return 0;
-        }
-        half.written().saturating_sub(half.sent_end())
-    }
-
-    pub(crate) fn acked_below(&self, stream: StreamId) -> Option<u64>
-        ensures { result ≡ acked_below_of (lookup self.now.sends stream) }
-    {
-        let half = self.half(stream)?;
-        Some(half.unacked_from())
     }
 
     pub(crate) fn may_have(&self, task: Task) -> bool
@@ -204,57 +107,24 @@ impl Outbox {
         next_with(&self.types, Task::Writable, from)
     }
 
-    pub(crate) fn next_short(&self, short: &ToldStreams) -> Option<StreamId>
-        ensures { IsLeast (λ n. IsHeld MayWrite self.now.sends n × (is_told short.now n ≡ true)) 0 result }
-    {
-        let _next = self.next;
-        let search = Search {
-            task: Task::Writable,
-            is_told: true,
-        };
-        next_sought(&self.types, search, short, 0)
-    }
-
-    pub(crate) fn next_short_funded(&self, short: &ToldStreams) -> Option<StreamId>
-        ensures { IsLeast (λ n. IsHeld IsFunded self.now.sends n × (is_told short.now n ≡ true)) 0 result }
-    {
-        let _next = self.next;
-        let search = Search {
-            task: Task::Funded,
-            is_told: true,
-        };
-        next_sought(&self.types, search, short, 0)
-    }
-
+    /// Of the kinds that a half's lane tells.
     #[inline(always)]
-    pub(crate) fn next_ended_untold(&self, told: &ToldStreams) -> Option<StreamId>
-        ensures { IsLeast (λ n. IsHeld HasSent self.now.sends n × (is_told told.now n ≡ false)) 0 result }
+    pub(crate) fn next_sought(&self, search: Search, told: &ToldStreams) -> Option<StreamId>
+        ensures { (p : SendLane → Bool) → ((s : Sending) → has search.task s ≡ p s.lane) → IsLeast (λ n. IsHeld (λ l. p l ≡ true) self.now.sends n × (is_told told.now n ≡ search.is_told)) 0 result }
     {
-        let _next = self.next;
-        let search = Search {
-            task: Task::Ended,
-            is_told: false,
-        };
-        next_sought(&self.types, search, told, 0)
-    }
-
-    #[inline(always)]
-    pub(crate) fn next_stopped_untold(&self, told: &ToldStreams) -> Option<StreamId>
-        ensures { IsLeast (λ n. IsHeld WasStopped self.now.sends n × (is_told told.now n ≡ false)) 0 result }
-    {
-        let _next = self.next;
-        let search = Search {
-            task: Task::Stopped,
-            is_told: false,
-        };
-        next_sought(&self.types, search, told, 0)
+        let types = &self.types;
+        least_stream(
+            next_sought_of(types, search, told, 0),
+            next_sought_of(types, search, told, 1),
+            next_sought_of(types, search, told, 2),
+            next_sought_of(types, search, told, 3),
+        )
     }
 
     /// One without a mark isn't over, so a search passes it.
     pub(crate) fn ended_marks(&self, stream_type: usize) -> &Marks
         requires { stream_type < 4 }
-        ensures none { AreEndsMarked HasSent self.now.sends stream_type result.now }
-        ensures few { length result.now ≤ 2 ^ 60 }
+        ensures { AreEndsMarked HasSent self.now.sends stream_type result.now }
     {
         let _next = self.next;
         let lanes = &self.types[stream_type];
@@ -267,20 +137,12 @@ impl Outbox {
         ensures { (e : End) → IsLeast (IsDueOf (with_outgoing self.now e)) from result }
     {
         let _next = self.next;
-        match next_with(&self.types, Task::Bytes, from) {
-            Some(stream) => {
-                half_of(&self.types, stream).learn_lawful();
-                Some(stream)
-            }
-            None => None,
-        }
+        let Some(stream) = next_with(&self.types, Task::Bytes, from) else {
+            return None;
+        };
+        half_of(&self.types, stream).learn_lawful();
+        Some(stream)
     }
-}
-
-fn either(a: bool, b: bool) -> bool
-    ensures { result ≡ (a || b) }
-{
-    a || b
 }
 
 fn reset_by(code: Option<u64>, size: Option<u64>) -> Option<Reset>
@@ -293,15 +155,5 @@ fn reset_by(code: Option<u64>, size: Option<u64>) -> Option<Reset>
         (Some(code), Some(size)) => Some(Reset { code, size }),
         (Some(_), None) => None,
         (None, _) => None,
-    }
-}
-
-fn changed_by_stop(half: &SendView<'_>, owner_answers: bool) -> bool
-    ensures { result ≡ changes_by_stop owner_answers half.now.lane }
-{
-    if owner_answers {
-        half.asked_changes()
-    } else {
-        half.stop_changes()
     }
 }

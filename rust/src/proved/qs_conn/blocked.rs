@@ -72,19 +72,10 @@ impl BlockedMarks {
             return None;
         }
         least_stream(
-            self.next_of(0),
-            self.next_of(1),
-            self.next_of(2),
-            self.next_of(3),
+            self.streams.of_type(0).marks().next_stream(0, 0),
+            self.streams.of_type(1).marks().next_stream(1, 0),
+            self.streams.of_type(2).marks().next_stream(2, 0),
+            self.streams.of_type(3).marks().next_stream(3, 0),
         )
-    }
-
-    fn next_of(&self, stream_type: usize) -> Option<u64> {
-        debug_assert!(stream_type < 4);
-        let told = self.streams.of_type(stream_type);
-        match told.marks().next(0) {
-            Some(index) => Some((index * 4 + stream_type) as u64),
-            None => None,
-        }
     }
 }

@@ -121,6 +121,7 @@ impl Heard {
     }
 
     // In the order of kinds, each by a search of its own: what no longer holds is so never found.
+    #[inline(always)]
     fn first(&self, end: &Endpoint) -> Option<News> {
         if let Some(stream) = end.next_opened(self.opened) {
             return Some(News::Opened(stream));
@@ -163,6 +164,7 @@ impl Heard {
     }
 
     // Noted before it is returned, so that a refusal leaves it for the next call.
+    #[inline(always)]
     fn hear(&mut self, answer: &Option<News>) -> Result<(), NoMemory> {
         match *answer {
             None => {}

@@ -49,13 +49,13 @@ impl Limits {
     }
 
     /// Whether a look at few numbers shows that no item is due, as is mostly so: then no half is looked at.
-    #[inline]
+    #[inline(always)]
     pub(crate) fn has_told(&self, outbox: &Outbox, own: &OwnCarried, slot: &Slot) -> bool {
         match *slot {
-            Slot::MaxData => self.max_data().is_none(),
-            Slot::MaxStreams(dir) => self.max_streams(dir).is_none(),
+            Slot::MaxData => own.has_told(self.max_data()),
+            Slot::MaxStreams(dir) => own.has_told(self.max_streams(dir)),
             Slot::DataBlocked => self.has_told_blocked(outbox, own),
-            Slot::StreamsBlocked(dir) => self.streams_blocked(dir).is_none(),
+            Slot::StreamsBlocked(dir) => own.has_told(self.streams_blocked(dir)),
             _ => false,
         }
     }
@@ -67,7 +67,7 @@ impl Limits {
             return true;
         }
         let limit = self.known_data;
-        own.is_told(outbox, &Item::DataBlocked { limit })
+        own.has(&Item::DataBlocked { limit })
     }
 
     /// A greater window moves the limit at once (RFC 9000, section 4.1): a step that is never reached would hide it.

@@ -2,6 +2,7 @@
 //! Which streams of one type may have something to send or to tell.
 
 use crate::proved::qs_conn::bits::{Bits, Both, FLAGS_PER_WORD, Left, Row};
+use crate::proved::qs_conn::places::index_from;
 use crate::proved::qs_conn::told_marks::ToldMarks;
 use crate::proved::qs_ranges::{NoMemory, lowest_bit};
 use crate::shim::alloc::Global;
@@ -52,6 +53,7 @@ impl Marks {
 
     #[inline]
     pub(crate) fn open_to(&mut self, count: usize) -> Result<(), NoMemory> {
+        debug_assert!(count <= 1 << 60);
         // More words than there are marks for sum up the same marks.
         self.words.open_to(count.div_ceil(FLAGS_PER_WORD))?;
         self.marks.open_to(count)
@@ -116,6 +118,17 @@ impl Marks {
         match self.first {
             Some(first) if first < from => least_from(from, &self.marks, &self.words),
             first => first,
+        }
+    }
+
+    /// The same of the streams of a type, by number.
+    #[inline]
+    pub(crate) fn next_stream(&self, stream_type: usize, from: u64) -> Option<u64> {
+        debug_assert!(stream_type < 4);
+        debug_assert!(from <= 1 << 62);
+        match self.next(index_from(stream_type, from)) {
+            Some(index) => Some((index * 4 + stream_type) as u64),
+            None => None,
         }
     }
 

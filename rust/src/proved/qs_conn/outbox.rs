@@ -8,7 +8,6 @@ use crate::proved::qs_conn::send_lanes::{SendLanes, Setting};
 use crate::proved::qs_conn::send_marks::{Moves, Task};
 use crate::proved::qs_conn::told::ToldItems;
 use halves::{half_of, is_open};
-use crate::proved::qs_calls::SendReport;
 use crate::proved::qs_ranges::NoMemory;
 use crate::proved::qs_send::{LostRecords, Piece, Records, SendFault, SendState, SendView};
 use crate::proved::qs_wire::StreamId;
@@ -77,11 +76,6 @@ impl Outbox {
     }
 
     #[inline]
-    pub(crate) fn count(&self, stream: StreamId) -> usize {
-        self.count_of(type_of(stream))
-    }
-
-    #[inline]
     pub(crate) fn count_of(&self, stream_type: usize) -> usize {
         debug_assert!(stream_type < 4);
         let lanes = &self.types[stream_type];
@@ -95,19 +89,6 @@ impl Outbox {
             return false;
         };
         matches!(half.state(), SendState::DataRecvd | SendState::ResetRecvd)
-    }
-
-    /// How a stream's sending half stands, where it is open.
-    #[inline]
-    pub(crate) fn report(&self, stream: StreamId) -> Option<SendReport> {
-        let half = self.half(stream)?;
-        Some(SendReport {
-            state: half.state(),
-            written: half.written(),
-            final_size: half.final_size(),
-            reset_code: half.reset_code(),
-            limit: half.limit(),
-        })
     }
 
     /// The number of the next packet.
@@ -207,12 +188,6 @@ impl Outbox {
                 half.stopped(code);
             }
         });
-    }
-
-    #[inline]
-    pub(crate) fn stop_code(&self, stream: StreamId) -> Option<u64> {
-        let half = self.half(stream)?;
-        half.stop_code()
     }
 
     #[inline]

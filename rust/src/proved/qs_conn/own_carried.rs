@@ -6,8 +6,8 @@ use crate::proved::qs_wire::Dir;
 /// A limit and two counts of streams for the peer, and what this endpoint lacks of its own three.
 pub(crate) const OWN_ITEMS: usize = 6;
 
-/// For each kind the value that went into a packet last, while that packet is outstanding. A value instead of a mark, which would have to
-/// go as a limit rises: nothing outstanding is above the present value, so that is outstanding only if it is the one that is kept.
+/// For each kind the value that went into a packet last, unless that was lost. A value instead of a mark, which would have to be set as a
+/// limit rises: no packet told more than the present value, so nothing is due if that is the one that is kept.
 pub(crate) struct OwnCarried {
     values: [Option<u64>; 6],
 }
@@ -20,13 +20,22 @@ impl OwnCarried {
         }
     }
 
-    #[inline]
+    #[inline(always)]
     pub(crate) fn has(&self, item: &Item) -> bool {
         let place = place_of(item);
         if place >= OWN_ITEMS {
             return false;
         }
         matches!(self.values[place], Some(value) if value == value_of(item))
+    }
+
+    /// The same of an item, where there is one.
+    #[inline(always)]
+    pub(crate) fn has_told(&self, item: Option<Item>) -> bool {
+        match item {
+            Some(item) => self.has(&item),
+            None => true,
+        }
     }
 
     #[inline]
@@ -53,6 +62,7 @@ impl OwnCarried {
     }
 }
 
+#[inline(always)]
 fn place_of(item: &Item) -> usize {
     match *item {
         Item::MaxData { .. } => 0,
@@ -63,6 +73,7 @@ fn place_of(item: &Item) -> usize {
     }
 }
 
+#[inline(always)]
 fn value_of(item: &Item) -> u64 {
     match *item {
         Item::MaxData { maximum } => maximum,
@@ -73,6 +84,7 @@ fn value_of(item: &Item) -> u64 {
     }
 }
 
+#[inline(always)]
 fn number_of(dir: Dir) -> usize {
     match dir {
         Dir::Bidi => 0,

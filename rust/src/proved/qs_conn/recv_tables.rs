@@ -1,7 +1,7 @@
 // Made from crates/qs_conn/src/recv_tables.rt by rust/erase; not edited by hand.
 use crate::proved::qs_conn::holds::sum_held;
 use crate::proved::qs_conn::marks::Marks;
-use crate::proved::qs_conn::places::{Place, index_from, index_of, least_stream, type_of};
+use crate::proved::qs_conn::places::{Place, index_of, least_stream, type_of};
 use crate::proved::qs_conn::recv_lanes::{Half, RecvLanes};
 use crate::proved::qs_conn::recv_marks::RecvTask;
 use crate::proved::qs_conn::stream_marks::StreamMarks;
@@ -9,7 +9,7 @@ use crate::proved::qs_conn::told_streams::ToldStreams;
 use crate::proved::qs_calls::RecvReport;
 use crate::proved::qs_machine::Tally;
 use crate::proved::qs_ranges::NoMemory;
-use crate::proved::qs_recv::{Peek, Read, RecvState, Share};
+use crate::proved::qs_recv::{Read, RecvState, Share};
 use crate::proved::qs_wire::StreamId;
 use crate::shim::alloc::Global;
 
@@ -41,27 +41,6 @@ impl RecvTables {
     pub(crate) fn half(&self, stream: Place) -> Option<&Half> {
         let lanes = &self.types[stream.stream_type];
         lanes.half(stream.index)
-    }
-
-    #[inline]
-    pub(crate) fn stream_changes(&self, stream: StreamId, offset: u64, len: u64, fin: bool) -> bool {
-        let Some(half) = self.half(Place::of(stream)) else {
-            return false;
-        };
-        half.stream_changes(offset, len, fin)
-    }
-
-    #[inline]
-    pub(crate) fn reset_changes(&self, stream: StreamId) -> bool {
-        let Some(half) = self.half(Place::of(stream)) else {
-            return false;
-        };
-        matches!(half.state(), RecvState::Recv | RecvState::SizeKnown)
-    }
-
-    #[inline]
-    pub(crate) fn count(&self, stream: StreamId) -> usize {
-        self.count_of(type_of(stream))
     }
 
     #[inline]
@@ -136,14 +115,6 @@ impl RecvTables {
     }
 
     #[inline]
-    pub(crate) fn is_readable(&self, stream: StreamId) -> bool {
-        match self.half(Place::of(stream)) {
-            Some(half) => half.is_readable(),
-            None => false,
-        }
-    }
-
-    #[inline]
     pub(crate) fn read(&mut self, stream: StreamId, into: &mut [u8]) -> Read {
         self.edit(Place::of(stream), into, |half, into| half.read(into))
     }
@@ -151,12 +122,6 @@ impl RecvTables {
     #[inline]
     pub(crate) fn skip(&mut self, stream: StreamId, most: usize) -> Read {
         self.edit(Place::of(stream), &mut [], |half, _into| half.skip(most))
-    }
-
-    #[inline]
-    pub(crate) fn peek(&self, stream: StreamId) -> Peek<'_> {
-        let half = self.half(Place::of(stream)).unwrap();
-        half.peek()
     }
 
     #[inline]
@@ -205,12 +170,6 @@ impl RecvTables {
     }
 
     #[inline]
-    pub(crate) fn taken(&self, stream: StreamId) -> Option<u64> {
-        let half = self.half(Place::of(stream))?;
-        Some(half.sizes().taken)
-    }
-
-    #[inline]
     pub(crate) fn limit_of(&self, stream: StreamId) -> Option<u64> {
         let half = self.half(Place::of(stream))?;
         Some(half.limit())
@@ -240,21 +199,11 @@ impl RecvTables {
     pub(crate) fn next_with(&self, task: RecvTask, from: u64) -> Option<StreamId> {
         debug_assert!(from <= 1 << 62);
         least_stream(
-            self.next_with_of(task, 0, from),
-            self.next_with_of(task, 1, from),
-            self.next_with_of(task, 2, from),
-            self.next_with_of(task, 3, from),
+            self.marks(task, 0).next_stream(0, from),
+            self.marks(task, 1).next_stream(1, from),
+            self.marks(task, 2).next_stream(2, from),
+            self.marks(task, 3).next_stream(3, from),
         )
-    }
-
-    fn next_with_of(&self, task: RecvTask, stream_type: usize, from: u64) -> Option<u64> {
-        debug_assert!(stream_type < 4);
-        debug_assert!(from <= 1 << 62);
-        let marks = self.marks(task, stream_type);
-        match marks.next(index_from(stream_type, from)) {
-            Some(index) => Some((index * 4 + stream_type) as u64),
-            None => None,
-        }
     }
 
     #[inline(always)]

@@ -2,48 +2,15 @@
 //! A mark for each stream that has a place, by type and index.
 
 use crate::proved::qs_conn::marks::Marks;
-use crate::proved::qs_conn::places::{index_from, index_of, least_stream, type_of};
+use crate::proved::qs_conn::places::{index_of, least_stream, type_of};
 use crate::proved::qs_ranges::NoMemory;
 use crate::proved::qs_wire::StreamId;
 use crate::shim::alloc::Global;
 
-struct TypeMarks {
-    marks: Marks,
-}
-
-impl TypeMarks {
-    fn new(alloc: Global) -> Self {
-        TypeMarks {
-            marks: Marks::new(alloc),
-        }
-    }
-
-    fn open_to(&mut self, count: usize) -> Result<(), NoMemory> {
-        debug_assert!(count <= 1 << 60);
-        self.marks.open_to(count)
-    }
-
-    fn set(&mut self, index: usize, is_marked: bool) {
-        if index >= self.marks.len() {
-            return;
-        }
-        self.marks.set(index, is_marked);
-    }
-
-    #[inline(always)]
-    fn may_have(&self) -> bool {
-        self.marks.may_have()
-    }
-
-    fn next(&self, from: usize) -> Option<usize> {
-        self.marks.next(from)
-    }
-}
-
 /// A search passes streams without a mark, however many there are.
 pub(crate) struct StreamMarks {
     // In the order of the two lowest bits of a stream's number.
-    types: [TypeMarks; 4],
+    types: [Marks; 4],
 }
 
 impl StreamMarks {
@@ -51,10 +18,10 @@ impl StreamMarks {
     pub(crate) fn new(alloc: Global) -> Self {
         StreamMarks {
             types: [
-                TypeMarks::new(alloc),
-                TypeMarks::new(alloc),
-                TypeMarks::new(alloc),
-                TypeMarks::new(alloc),
+                Marks::new(alloc),
+                Marks::new(alloc),
+                Marks::new(alloc),
+                Marks::new(alloc),
             ],
         }
     }
@@ -85,10 +52,10 @@ impl StreamMarks {
     fn least_marked(&self, from: u64) -> Option<StreamId> {
         debug_assert!(from <= 1 << 62);
         least_stream(
-            self.next_of(0, from),
-            self.next_of(1, from),
-            self.next_of(2, from),
-            self.next_of(3, from),
+            self.types[0].next_stream(0, from),
+            self.types[1].next_stream(1, from),
+            self.types[2].next_stream(2, from),
+            self.types[3].next_stream(3, from),
         )
     }
 
@@ -104,13 +71,5 @@ impl StreamMarks {
             return true;
         }
         self.types[3].may_have()
-    }
-
-    fn next_of(&self, stream_type: usize, from: u64) -> Option<u64> {
-        debug_assert!(stream_type < 4);
-        debug_assert!(from <= 1 << 62);
-        let lanes = &self.types[stream_type];
-        let index = lanes.next(index_from(stream_type, from))?;
-        Some((index * 4 + stream_type) as u64)
     }
 }

@@ -36,6 +36,7 @@ impl ToldMarks {
 
     #[inline]
     pub(crate) fn open_to(&mut self, count: usize) -> Result<(), NoMemory> {
+        debug_assert!(count <= 1 << 60);
         if count <= self.marks.len() {
             return Ok(());
         }

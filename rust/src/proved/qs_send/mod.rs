@@ -10,7 +10,6 @@ mod gone;
 mod half;
 mod halves;
 mod kept;
-mod live_offsets;
 mod lost_pass;
 mod lost_record;
 mod lost_records;

@@ -2,7 +2,8 @@
 //! What the application and the transport may ask of an endpoint. Nothing changes.
 
 use super::Endpoint;
-use crate::proved::qs_calls::{Closed, NotedClose, UseFault};
+use crate::proved::qs_conn::places::Place;
+use crate::proved::qs_calls::{Closed, MAX_VARINT, NotedClose, UseFault};
 use crate::proved::qs_recv::Peek;
 use crate::proved::qs_wire::{Dir, StreamId};
 
@@ -54,7 +55,8 @@ impl Endpoint {
         if let Some(fault) = self.no_reader(stream) {
             return Err(fault);
         }
-        Ok(self.core.recvs.peek(stream))
+        let half = self.core.recvs.half(Place::of(stream)).unwrap();
+        Ok(half.peek())
     }
 
     /// How many bytes of a stream count as consumed, which its limit follows: those that were read, or all that arrived once it was
@@ -62,7 +64,8 @@ impl Endpoint {
     /// It shows how fast a window is used up. Constant time.
     #[inline]
     pub fn taken(&self, stream: StreamId) -> Option<u64> {
-        self.core.recvs.taken(stream)
+        let half = self.core.recvs.half(Place::of(stream))?;
+        Some(half.sizes().taken)
     }
 
     /// How many bytes of all streams count as consumed: the sum of `taken` over all, which the connection's limit follows (RFC 9000,
@@ -97,8 +100,17 @@ impl Endpoint {
     /// 10.2).
     #[inline]
     pub fn is_blocked(&self, stream: StreamId) -> bool {
+        let Some(half) = self.core.outbox.half(stream) else {
+            return false;
+        };
+        if let Some(_code) = half.reset_code() {
+            return false;
+        }
+        if half.sent_end() >= half.written() {
+            return false;
+        }
         let is_used_up = self.core.outbox.sent_sum() == self.core.limits.known_data;
-        self.closed.is_none() && self.core.outbox.waits_for_credit(stream, is_used_up)
+        self.closed.is_none() && (half.sent_end() == half.limit() || is_used_up)
     }
 
     /// How many new bytes the peer's limit on the connection permits (RFC 9000, section 4.1). Lost bytes need no credit, and written ones
@@ -126,7 +138,13 @@ impl Endpoint {
 
     // The lesser of both, so that `room` never promises what `write` refuses.
     fn credit_room(&self, stream: StreamId) -> u64 {
-        let room = self.core.outbox.room(stream);
+        let Some(half) = self.core.outbox.half(stream) else {
+            return 0;
+        };
+        if half.refusal().is_some() {
+            return 0;
+        }
+        let room = (half.room() as u64).min(MAX_VARINT - half.written());
         if self.core.limits.tuning.within_credit {
             return room.min(self.credit_for(stream));
         }
@@ -160,28 +178,39 @@ impl Endpoint {
     #[inline]
     pub(super) fn credit_for(&self, stream: StreamId) -> u64 {
         let all = self.credit_left().saturating_sub(self.unsent_sum());
-        all.min(self.core.outbox.limit_left(stream))
+        let Some(half) = self.core.outbox.half(stream) else {
+            return 0;
+        };
+        all.min(half.limit().saturating_sub(half.written()))
     }
 
     /// How many bytes of a stream weren't sent yet: 0 after a reset, since none will be (RFC 9000, sections 2.2 and 3.1), and if the stream
     /// has no sending half here.
     #[inline]
     pub fn unsent(&self, stream: StreamId) -> u64 {
-        self.core.outbox.unsent(stream)
+        let Some(half) = self.core.outbox.half(stream) else {
+            return 0;
+        };
+        if let Some(_code) = half.reset_code() {
+            return 0;
+        }
+        half.written().saturating_sub(half.sent_end())
     }
 
     /// The lowest offset of a stream that isn't acknowledged, in bytes from its start: all below it are (RFC 9000, section 13.3). If it is
     /// the count written, every byte is. `None` if the stream has no sending half here.
     #[inline]
     pub fn acked_below(&self, stream: StreamId) -> Option<u64> {
-        self.core.outbox.acked_below(stream)
+        let half = self.core.outbox.half(stream)?;
+        Some(half.unacked_from())
     }
 
     /// The code of the peer's first STOP_SENDING that came while the sending half could be reset; `None` if there was none. It stays,
     /// whatever becomes of the half, for an application that comes late (RFC 9000, section 3.5).
     #[inline]
     pub fn stopped_with(&self, stream: StreamId) -> Option<u64> {
-        self.core.outbox.stop_code(stream)
+        let half = self.core.outbox.half(stream)?;
+        half.stop_code()
     }
 
     /// The lowest number from one on of an outstanding packet: it was made, asks for an ACK, and is neither acknowledged nor declared lost

@@ -3,8 +3,9 @@
 
 use super::Endpoint;
 use crate::proved::qs_conn::by_dir::ByDir;
-use crate::proved::qs_conn::places::lesser;
+use crate::proved::qs_conn::places::{index_of, lesser, type_of};
 use crate::proved::qs_conn::recv_marks::RecvTask;
+use crate::proved::qs_conn::send_marks::{Search, Task};
 use crate::proved::qs_conn::told_streams::ToldStreams;
 use crate::proved::qs_calls::MAX_VARINT;
 use crate::proved::qs_wire::{Dir, StreamId};
@@ -44,9 +45,17 @@ impl Endpoint {
             return None;
         }
         if self.core.limits.tuning.within_credit {
-            return self.core.outbox.next_short_funded(short);
+            let search = Search {
+                task: Task::Funded,
+                is_told: true,
+            };
+            return self.core.outbox.next_sought(search, short);
         }
-        self.core.outbox.next_short(short)
+        let search = Search {
+            task: Task::Writable,
+            is_told: true,
+        };
+        self.core.outbox.next_sought(search, short)
     }
 
     // What holds all streams back is asked once, and not of each stream.
@@ -69,12 +78,20 @@ impl Endpoint {
 
     #[inline]
     pub(crate) fn next_stopped_untold(&self, told: &ToldStreams) -> Option<StreamId> {
-        self.core.outbox.next_stopped_untold(told)
+        let search = Search {
+            task: Task::Stopped,
+            is_told: false,
+        };
+        self.core.outbox.next_sought(search, told)
     }
 
     #[inline]
     pub(crate) fn next_sent_untold(&self, told: &ToldStreams) -> Option<StreamId> {
-        self.core.outbox.next_ended_untold(told)
+        let search = Search {
+            task: Task::Ended,
+            is_told: false,
+        };
+        self.core.outbox.next_sought(search, told)
     }
 
     /// Of the directions in which an open was blocked: others nobody waits for.
@@ -111,7 +128,8 @@ impl Endpoint {
         if self.is_read_no_more() {
             return false;
         }
-        self.core.recvs.is_readable(stream)
+        let readable = self.core.recvs.marks(RecvTask::Readable, type_of(stream));
+        readable.has(index_of(stream))
     }
 
     #[inline]

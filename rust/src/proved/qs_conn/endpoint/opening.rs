@@ -1,6 +1,7 @@
 // Made from crates/qs_conn/src/endpoint/opening.rt by rust/erase; not edited by hand.
 use super::{Endpoint, is_uni, role_bit};
 use crate::proved::qs_conn::outbox::Outbox;
+use crate::proved::qs_conn::places::type_of;
 use crate::proved::qs_conn::recv_tables::RecvTables;
 use crate::proved::qs_calls::{OpenFault, Share};
 use crate::proved::qs_ranges::NoMemory;
@@ -101,7 +102,7 @@ impl Endpoint {
         let window = self.window(stream);
         let share = self.core.limits.tuning.credit_step;
         let buffer = self.send_buffer();
-        let before = self.core.outbox.count(stream);
+        let before = self.core.outbox.count_of(type_of(stream));
         self.core.due.open_to(stream)?;
         open_sends(
             &mut self.core.outbox,

@@ -2,7 +2,7 @@
 //! What the application does with its streams.
 
 use super::Endpoint;
-use crate::proved::qs_calls::{Closed, Closing, Consumed, LaneReport, UseFault};
+use crate::proved::qs_calls::{Closed, Closing, Consumed, LaneReport, SendReport, UseFault};
 use crate::proved::qs_recv::Read;
 use crate::proved::qs_send::SendFault;
 use crate::proved::qs_wire::StreamId;
@@ -189,10 +189,17 @@ impl Endpoint {
     /// The states of the stream's halves at this endpoint, `None` if it isn't open.
     #[inline]
     pub fn lane_report(&self, stream: StreamId) -> Option<LaneReport> {
-        match (
-            self.core.outbox.report(stream),
-            self.core.recvs.report(stream),
-        ) {
+        let send = match self.core.outbox.half(stream) {
+            Some(half) => Some(SendReport {
+                state: half.state(),
+                written: half.written(),
+                final_size: half.final_size(),
+                reset_code: half.reset_code(),
+                limit: half.limit(),
+            }),
+            None => None,
+        };
+        match (send, self.core.recvs.report(stream)) {
             (None, None) => None,
             (send, recv) => Some(LaneReport { send, recv }),
         }

@@ -3,7 +3,7 @@
 
 use super::Endpoint;
 use crate::proved::qs_conn::newly_told::Told;
-use crate::proved::qs_conn::places::Place;
+use crate::proved::qs_conn::places::{Place, type_of};
 use crate::proved::qs_conn::seen::SeenFrame;
 use crate::proved::qs_ranges::NoMemory;
 use crate::proved::qs_send::Item;
@@ -145,8 +145,9 @@ impl Endpoint {
         bytes: &[u8],
         fin: bool,
     ) -> Result<(), NoMemory> {
-        let sends = self.core.outbox.count(stream);
-        let recvs = self.core.recvs.count(stream);
+        let stream_type = type_of(stream);
+        let sends = self.core.outbox.count_of(stream_type);
+        let recvs = self.core.recvs.count_of(stream_type);
         self.open_by_peer(stream)?;
         let was = self.core.is_over(stream);
         let place = Place::of(stream);

@@ -111,7 +111,6 @@ impl Core {
     fn ack_piece(&mut self, packet: KeptPacket, piece: Piece) -> Result<(), NoMemory> {
         let Some(stream) = half_of(&piece) else {
             self.outbox.ack_kept(packet, piece)?;
-            self.drop_own(packet, piece);
             return Ok(());
         };
         let was = self.is_over(stream);
@@ -119,15 +118,6 @@ impl Core {
         let is = self.is_over(stream);
         self.ended.recount(stream, was, is);
         Ok(())
-    }
-
-    fn drop_own(&mut self, packet: KeptPacket, piece: Piece) {
-        if packet.late {
-            return;
-        }
-        if let Piece::Told(item) = piece {
-            self.own.remove(&item);
-        }
     }
 }
 

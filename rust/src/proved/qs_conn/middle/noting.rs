@@ -28,7 +28,13 @@ impl Core {
     /// So many bytes were written: if they brought the stream to its limit it is blocked there (RFC 9000, section 4.1).
     #[inline]
     pub(crate) fn note_written(&mut self, stream: StreamId, count: usize) {
-        if self.outbox.is_blocked_by(stream, count) {
+        let Some(limit) = self.outbox.blocked_at(stream) else {
+            return;
+        };
+        let Some(half) = self.outbox.half(stream) else {
+            return;
+        };
+        if half.written() - limit <= count as u64 {
             self.due.blocks.set(stream, true);
         }
     }
@@ -80,7 +86,7 @@ impl Core {
                 matches!(self.recvs.limit_of(stream), Some(present) if present == maximum)
             }
             Item::StreamDataBlocked { stream, limit } => {
-                matches!(self.outbox.limit_of(stream), Some(present) if present == limit)
+                matches!(self.outbox.half(stream), Some(half) if half.limit() == limit)
             }
             _ => true,
         }

@@ -122,12 +122,12 @@ impl Core {
     fn has_bytes(&self, stream: StreamId) -> bool {
         // With room for any frame's head and one byte, only limits hold a chunk back.
         const ENOUGH: usize = 25;
-        if !self.outbox.is_open(stream) {
+        let Some(half) = self.outbox.half(stream) else {
             return false;
-        }
+        };
         let fresh = self.limits.known_data - self.outbox.sent_sum();
         if fresh > 0 {
-            if self.outbox.has_unsent(stream) {
+            if half.has_unsent() {
                 return true;
             }
         }

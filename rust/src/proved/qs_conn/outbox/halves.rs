@@ -92,37 +92,18 @@ fn next_of(types: &[SendLanes; 4], task: Task, stream_type: usize, from: u64) ->
 
 /// Of a type of which no half has a mark a caller pays for one look.
 #[inline(always)]
-pub(super) fn next_sought(
-    types: &[SendLanes; 4],
-    search: Search,
-    told: &ToldStreams,
-    from: u64,
-) -> Option<StreamId> {
-    debug_assert!(from <= 1 << 62);
-    least_stream(
-        next_sought_of(types, search, told, 0, from),
-        next_sought_of(types, search, told, 1, from),
-        next_sought_of(types, search, told, 2, from),
-        next_sought_of(types, search, told, 3, from),
-    )
-}
-
-#[inline(always)]
-fn next_sought_of(
+pub(super) fn next_sought_of(
     types: &[SendLanes; 4],
     search: Search,
     told: &ToldStreams,
     stream_type: usize,
-    from: u64,
 ) -> Option<u64> {
     debug_assert!(stream_type < 4);
-    debug_assert!(from <= 1 << 62);
     let lanes = &types[stream_type];
     if !lanes.may_have(search.task) {
         return None;
     }
-    let marks = told.of_type(stream_type);
-    match lanes.next_sought(search, marks, index_from(stream_type, from)) {
+    match lanes.next_sought(search, told.of_type(stream_type), 0) {
         Some(index) => Some((index * 4 + stream_type) as u64),
         None => None,
     }

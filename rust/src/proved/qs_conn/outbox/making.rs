@@ -37,13 +37,6 @@ impl Outbox {
     }
 
     #[inline]
-    pub(crate) fn has_unsent(&self, stream: StreamId) -> bool {
-        let _next = self.next;
-        let half = half_of(&self.types, stream);
-        half.has_unsent()
-    }
-
-    #[inline]
     pub(crate) fn is_held_by_room(&self, stream: StreamId, room: usize, fresh: u64) -> bool {
         let _next = self.next;
         let half = half_of(&self.types, stream);
@@ -75,7 +68,11 @@ impl Outbox {
 
     #[inline]
     pub(crate) fn last_stream(&self) -> Option<StreamId> {
-        last_data(&self.pending)
+        // Mostly the last piece, as control frames go in first.
+        if let Some(Piece::Data { stream, .. }) = self.pending.last() {
+            return Some(*stream);
+        }
+        last_looked_for(&self.pending)
     }
 
     #[inline]
@@ -127,14 +124,6 @@ fn put_pieces(records: &mut Records, number: u64, pending: &mut Vec<Piece>, room
     if let Some(piece) = pending.pop() {
         records.put_one(number, piece);
     }
-}
-
-// Mostly the last piece, as control frames go in first.
-fn last_data(pieces: &[Piece]) -> Option<StreamId> {
-    if let Some(Piece::Data { stream, .. }) = pieces.last() {
-        return Some(*stream);
-    }
-    last_looked_for(pieces)
 }
 
 #[inline(never)]

@@ -82,7 +82,7 @@ kept_new role s tuned p wanted o recvs t xs done is empty none no_numbers no_val
           credit = omega (arith, sum);
           counts = fit_new role s recvs o.sends in_range none;
           due = due_none role s recvs o.sends (packets_of o) t none (ap (λ (x : Outgoing). x.sends) empty) (nothing_put o empty);
-          own = own_new _ o.outstanding xs (ap (λ (x : Outgoing). x.outstanding) empty) no_values;
+          own = own_new _ o xs empty no_values;
         };
         idle = idle_new o empty;
       };

@@ -25,4 +25,4 @@ pub returns-then-not-may_have_untold-clause-least : goal.returns-then-not-may_ha
 returns-then-not-may_have_untold-clause-least c =
     let none : c.may_have_untold.result ≡ false = grind (arith, c.if-not-may_have_untold.true) in
     let over = IsUntoldOf (IsEnded c.args.self.now) c.args.told.now c.args.stream_type in
-    none_on over c.args.from c.args.from (clear_at over c.args.from) (λ n ge p. none_marked (IsEnded c.args.self.now) c.args.told.now c.args.stream_type 0 0 c.ended_marks.result.0.now c.ended_marks.result.1.now c.requires.stream_type (omega (arith, c.requires.stream_type)) c.ended_marks.ensures.none (rw c.of_type.ensures at c.may_have_untold.ensures none c.ended_marks.result.1.now) n (omega arith) p)
+    none_on over c.args.from c.args.from (clear_at over c.args.from) (λ n ge p. none_marked (IsEnded c.args.self.now) c.args.told.now c.args.stream_type 0 0 c.ended_marks.result.0.now c.ended_marks.result.1.now c.requires.stream_type (omega (arith, c.requires.stream_type)) c.ended_marks.ensures (rw c.of_type.ensures at c.may_have_untold.ensures none c.ended_marks.result.1.now) n (omega arith) p)

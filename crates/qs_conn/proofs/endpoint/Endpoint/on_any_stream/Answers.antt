@@ -37,8 +37,8 @@ take_stream-requires-clause-unchanged c =
 
 pub close_to-requires-in-Err : goal.close_to-requires-in-Err
 close_to-requires-in-Err c =
-    subst (λ (t : Tables RecvLane). tally_on (take c.count-recvs.result (table t (c.args.stream % 4))) ≡ tally_on (table t (c.args.stream % 4))) (sym c.in-Err.ensures.err)
-    (tally_back c.args.self.now _ c.args.stream c.count-recvs.result (c.self-2.view_is ∙ c.in_ok-open_by_peer.ensures.ok) (c.count-recvs.ensures ∙ ap (λ (e : End). length (table e.recvs (c.args.stream % 4))) c.self.view_is))
+    subst (λ (t : Tables RecvLane). tally_on (take c.count_of-recvs.result (table t (c.args.stream % 4))) ≡ tally_on (table t (c.args.stream % 4))) (sym c.in-Err.ensures.err)
+    (tally_back c.args.self.now _ c.args.stream c.count_of-recvs.result (c.self-2.view_is ∙ c.in_ok-open_by_peer.ensures.ok) ((rw c.type_of-stream_type.ensures.value at c.count_of-recvs.ensures.value) ∙ ap (λ (e : End). length (table e.recvs (c.args.stream % 4))) c.self.view_is))
 
 pub invariant_of-self : goal.invariant_of-self
 invariant_of-self c =
@@ -48,11 +48,11 @@ invariant_of-self c =
     let credit = h.core.credit in
     let opened = c.self-2.view_is ∙ c.in_ok-open_by_peer.ensures.ok in
     let sound : IsInCredit c.args.self.now = subst (λ (k : End). IsInCredit k) c.self.view_is was.core.sound in
-    let back = recvs_back c.args.self.now _ c.args.stream c.count-recvs.result c.close_to-in-Err.new.self opened (c.count-recvs.ensures ∙ ap (λ (e : End). length (table e.recvs (c.args.stream % 4))) c.self.view_is) (c.close_to-in-Err.ensures ∙ ap (λ (t : Tables RecvLane). with_table t (c.args.stream % 4) (take c.count-recvs.result (table t (c.args.stream % 4)))) c.in-Err.ensures.err) in
-    let sends = sends_back c.args.self.now _ c.args.stream c.count-sends.result c.close_to.new.self.sends opened (c.count-sends.ensures ∙ ap (λ (e : End). length (table e.sends (c.args.stream % 4))) c.self.view_is) (ap (λ (x : Outgoing). x.sends) c.close_to.ensures) in
+    let back = recvs_back c.args.self.now _ c.args.stream c.count_of-recvs.result c.close_to-in-Err.new.self opened ((rw c.type_of-stream_type.ensures.value at c.count_of-recvs.ensures.value) ∙ ap (λ (e : End). length (table e.recvs (c.args.stream % 4))) c.self.view_is) (c.close_to-in-Err.ensures ∙ ap (λ (t : Tables RecvLane). with_table t (c.args.stream % 4) (take c.count_of-recvs.result (table t (c.args.stream % 4)))) c.in-Err.ensures.err) in
+    let sends = sends_back c.args.self.now _ c.args.stream c.count_of-sends.result c.close_to.new.self.sends opened ((rw c.type_of-stream_type.ensures.value at c.count_of-sends.ensures.value) ∙ ap (λ (e : End). length (table e.sends (c.args.stream % 4))) c.self.view_is) (ap (λ (x : Outgoing). x.sends) c.close_to.ensures) in
     let was_due : AreDue c.args.self.now.role c.args.self.now.settings c.args.self.now.recvs c.args.self.now.sends (packets_at c.args.self.now) c.self.inside.core.due = subst (λ (k : End). AreDue k.role k.settings k.recvs k.sends (packets_at k) c.self.inside.core.due) c.self.view_is was.core.due in
     let before : AreDue core.limits.role core.limits.settings c.close_to-in-Err.new.self c.close_to.new.self.sends (packets_of core.outbox) c.self.inside.core.due = due_before c.args.self.now _ c.args.stream c.close_to-in-Err.new.self c.close_to.new.self.sends c.self.inside.core.due opened back sends was_due in
-    let sum = ap (λ (x : Outgoing). sent_sum x.sends) c.close_to.ensures ∙ peer_unsent c.args.self.now _ c.args.stream c.count-sends.result opened (c.count-sends.ensures ∙ ap (λ (e : End). length (table e.sends (c.args.stream % 4))) c.self.view_is) in
+    let sum = ap (λ (x : Outgoing). sent_sum x.sends) c.close_to.ensures ∙ peer_unsent c.args.self.now _ c.args.stream c.count_of-sends.result opened ((rw c.type_of-stream_type.ensures.value at c.count_of-sends.ensures.value) ∙ ap (λ (e : End). length (table e.sends (c.args.stream % 4))) c.self.view_is) in
     kept_moved _ _ _ _ _ _ c.self-2.invariant _
     (record {
       core = record {
@@ -62,29 +62,29 @@ invariant_of-self c =
         counts = fit_recvs _ _ _ _ _ _ _ h.core.counts _ _ _ (closed_counted c.args.self.now _ c.args.stream _ _ c.self.inside.core.ended _ opened back sends (subst (λ (k : End). AreAllCounted k.role k.recvs k.sends c.self.inside.core.ended) c.self.view_is was.core.counts.counted) h.core.counts.counted)
             (subst (λ (t : Tables RecvLane). (n : ℕ) → IsToldOfEnd (lookup t n)) (sym back) (subst (λ (k : End). (n : ℕ) → IsToldOfEnd (lookup k.recvs n)) c.self.view_is was.core.counts.told));
         due = subst (λ (x : Outgoing). AreDue core.limits.role core.limits.settings c.close_to-in-Err.new.self x.sends (packets_of x) core.due) (sym c.close_to.ensures)
-            (due_closed h.core.due c.take_stream.new.self c.close_to-in-Err.new.self _ c.args.stream c.count-recvs.result c.count-sends.result c.in-Err.ensures.err c.close_to-in-Err.ensures refl
+            (due_closed h.core.due c.take_stream.new.self c.close_to-in-Err.new.self _ c.args.stream c.count_of-recvs.result c.count_of-sends.result c.in-Err.ensures.err c.close_to-in-Err.ensures refl
             c.self.inside.core.due (subst (λ (x : Outgoing). AreDue core.limits.role core.limits.settings c.close_to-in-Err.new.self x.sends (packets_of core.outbox) c.self.inside.core.due) c.close_to.ensures before));
-        own = subst (λ (x : Outgoing). AreOwn core.limits x.outstanding core.own) (sym c.close_to.ensures) h.core.own;
+        own = subst (λ (x : Outgoing). AreOwn core.limits (packets_of x) core.own) (sym c.close_to.ensures) h.core.own;
       };
       idle = idle_with core.outbox _ _ c.close_to.ensures h.idle;
     })
 
 pub returns-in-Err-clause-err : goal.returns-in-Err-clause-err
 returns-in-Err-clause-err c =
-    let recvs = recvs_back c.args.self.now _ c.args.stream c.count-recvs.result c.close_to-in-Err.new.self (c.self-2.view_is ∙ c.in_ok-open_by_peer.ensures.ok) (c.count-recvs.ensures ∙ ap (λ (e : End). length (table e.recvs (c.args.stream % 4))) c.self.view_is) (c.close_to-in-Err.ensures ∙ ap (λ (t : Tables RecvLane). with_table t (c.args.stream % 4) (take c.count-recvs.result (table t (c.args.stream % 4)))) c.in-Err.ensures.err) in
-    restored_out c.args.self.now _ c.args.stream c.count-sends.result c.self-2.inside.core.outbox.spare c.close_to.new.self c.close_to-in-Err.new.self (c.self-2.view_is ∙ c.in_ok-open_by_peer.ensures.ok)
-    (c.count-sends.ensures ∙ ap (λ (e : End). length (table e.sends (c.args.stream % 4))) c.self.view_is) c.close_to.ensures recvs
+    let recvs = recvs_back c.args.self.now _ c.args.stream c.count_of-recvs.result c.close_to-in-Err.new.self (c.self-2.view_is ∙ c.in_ok-open_by_peer.ensures.ok) ((rw c.type_of-stream_type.ensures.value at c.count_of-recvs.ensures.value) ∙ ap (λ (e : End). length (table e.recvs (c.args.stream % 4))) c.self.view_is) (c.close_to-in-Err.ensures ∙ ap (λ (t : Tables RecvLane). with_table t (c.args.stream % 4) (take c.count_of-recvs.result (table t (c.args.stream % 4)))) c.in-Err.ensures.err) in
+    restored_out c.args.self.now _ c.args.stream c.count_of-sends.result c.self-2.inside.core.outbox.spare c.close_to.new.self c.close_to-in-Err.new.self (c.self-2.view_is ∙ c.in_ok-open_by_peer.ensures.ok)
+    ((rw c.type_of-stream_type.ensures.value at c.count_of-sends.ensures.value) ∙ ap (λ (e : End). length (table e.sends (c.args.stream % 4))) c.self.view_is) c.close_to.ensures recvs
 
 pub close_to-requires : goal.close_to-requires
 close_to-requires c =
     let opened = c.self-2.view_is ∙ c.in_ok-open_by_peer.ensures.ok in
-    let count = c.count-sends.ensures ∙ ap (λ (e : End). length (table e.sends (c.args.stream % 4))) c.self.view_is in
+    let count = (rw c.type_of-stream_type.ensures.value at c.count_of-sends.ensures.value) ∙ ap (λ (e : End). length (table e.sends (c.args.stream % 4))) c.self.view_is in
     record {
-      none = peer_none c.args.self.now _ c.args.stream c.count-sends.result opened count (subst (λ (k : End). AreOfOpen k.sends k.outstanding) c.self.view_is c.learn_of_open.ensures.outstanding);
-      lost = peer_lost c.args.self.now _ c.args.stream c.count-sends.result opened count (subst (λ (k : End). AreOfOpen k.sends k.lost.pieces) c.self.view_is c.learn_of_open.ensures.lost);
-      unsent = peer_unsent c.args.self.now _ c.args.stream c.count-sends.result opened count;
-      unwritten = peer_unwritten promised_on (λ j limit buffer. refl) c.args.self.now _ c.args.stream c.count-sends.result opened count;
-      unkept = peer_unwritten kept_on (λ j limit buffer. refl) c.args.self.now _ c.args.stream c.count-sends.result opened count;
+      none = peer_none c.args.self.now _ c.args.stream c.count_of-sends.result opened count (subst (λ (k : End). AreOfOpen k.sends k.outstanding) c.self.view_is c.learn_of_open.ensures.outstanding);
+      lost = peer_lost c.args.self.now _ c.args.stream c.count_of-sends.result opened count (subst (λ (k : End). AreOfOpen k.sends k.lost.pieces) c.self.view_is c.learn_of_open.ensures.lost);
+      unsent = peer_unsent c.args.self.now _ c.args.stream c.count_of-sends.result opened count;
+      unwritten = peer_unwritten promised_on (λ j limit buffer. refl) c.args.self.now _ c.args.stream c.count_of-sends.result opened count;
+      unkept = peer_unwritten kept_on (λ j limit buffer. refl) c.args.self.now _ c.args.stream c.count_of-sends.result opened count;
     }
 
 pub invariant_of-self-2 : goal.invariant_of-self-2

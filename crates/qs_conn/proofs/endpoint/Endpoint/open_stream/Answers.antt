@@ -10,7 +10,7 @@ use Rattle.qs_conn.proofs.endpoint.Endpoint.open_stream.Goals as goal
 
 pub returns-in-Err-clause-err : goal.returns-in-Err-clause-err
 returns-in-Err-clause-err c =
-    let back = out_back c.self.inside.core.outbox c.open_sends.new.outbox c.args.stream c.count-before.result _ _ _ c.in_ok-open_sends.ensures.ok c.count-before.ensures c.close_to.new.self c.close_to.ensures in
+    let back = out_back c.self.inside.core.outbox c.open_sends.new.outbox c.args.stream c.count_of-before.result _ _ _ c.in_ok-open_sends.ensures.ok (rw c.type_of.ensures.value at c.count_of-before.ensures.value) c.close_to.new.self c.close_to.ensures in
     rw (← c.self.view_is, back, c.in-Err.ensures.err) refl
 
 pub invariant_of-self-2 : goal.invariant_of-self-2
@@ -26,18 +26,18 @@ close_to-requires c =
     let old = c.self.inside.core.outbox in
     let new = c.open_sends.new.outbox in
     record {
-      none = none_back old new c.args.stream c.count-before.result _ _ _ c.in_ok-open_sends.ensures.ok c.count-before.ensures c.learn_of_open.ensures.outstanding;
-      lost = lost_back old new c.args.stream c.count-before.result _ _ _ c.in_ok-open_sends.ensures.ok c.count-before.ensures c.learn_of_open.ensures.lost;
-      unsent = unsent_back old new c.args.stream c.count-before.result _ _ _ c.in_ok-open_sends.ensures.ok c.count-before.ensures;
-      unwritten = unwritten_back promised_on (λ j limit buffer. refl) old new c.args.stream c.count-before.result _ _ _ c.in_ok-open_sends.ensures.ok c.count-before.ensures;
-      unkept = unwritten_back kept_on (λ j limit buffer. refl) old new c.args.stream c.count-before.result _ _ _ c.in_ok-open_sends.ensures.ok c.count-before.ensures;
+      none = none_back old new c.args.stream c.count_of-before.result _ _ _ c.in_ok-open_sends.ensures.ok (rw c.type_of.ensures.value at c.count_of-before.ensures.value) c.learn_of_open.ensures.outstanding;
+      lost = lost_back old new c.args.stream c.count_of-before.result _ _ _ c.in_ok-open_sends.ensures.ok (rw c.type_of.ensures.value at c.count_of-before.ensures.value) c.learn_of_open.ensures.lost;
+      unsent = unsent_back old new c.args.stream c.count_of-before.result _ _ _ c.in_ok-open_sends.ensures.ok (rw c.type_of.ensures.value at c.count_of-before.ensures.value);
+      unwritten = unwritten_back promised_on (λ j limit buffer. refl) old new c.args.stream c.count_of-before.result _ _ _ c.in_ok-open_sends.ensures.ok (rw c.type_of.ensures.value at c.count_of-before.ensures.value);
+      unkept = unwritten_back kept_on (λ j limit buffer. refl) old new c.args.stream c.count_of-before.result _ _ _ c.in_ok-open_sends.ensures.ok (rw c.type_of.ensures.value at c.count_of-before.ensures.value);
     }
 
 pub invariant_of-self-in-Err : goal.invariant_of-self-in-Err
 invariant_of-self-in-Err c =
     let core = c.self.inside.core in
     let h = c.self.invariant.rest in
-    let back = out_back core.outbox c.open_sends.new.outbox c.args.stream c.count-before.result _ _ _ c.in_ok-open_sends.ensures.ok c.count-before.ensures c.close_to.new.self c.close_to.ensures in
+    let back = out_back core.outbox c.open_sends.new.outbox c.args.stream c.count_of-before.result _ _ _ c.in_ok-open_sends.ensures.ok (rw c.type_of.ensures.value at c.count_of-before.ensures.value) c.close_to.new.self c.close_to.ensures in
     let placed = rest_placed core h c.open_to.new.self (wide_all c.args.stream core.due c.open_to.new.self c.in_ok-open_to.ensures.ok) in
     kept_moved _ _ _ _ _ _ c.self.invariant _ (rw (back, c.in-Err.ensures.err) placed)
 

@@ -9,5 +9,5 @@ search-requires-clause-within c = omega (arith, c.words.ensures.room, both_len c
 pub search-requires-clause-summed : goal.search-requires-clause-summed
 search-requires-clause-summed c = summed_untold _ _ _ _ (summed_both _ _ _ _ c.self.invariant.0 c.others.invariant.0) (rw c.bits.ensures c.full.ensures)
 
-pub returns : goal.returns
-returns c = rw (← c.self.view_is, ← c.others.view_is) (rw c.bits.ensures at c.search.ensures)
+pub returns-clause-next : goal.returns-clause-next
+returns-clause-next c = rw (← c.self.view_is, ← c.others.view_is) (rw c.bits.ensures at c.search.ensures)

@@ -1,5 +1,6 @@
 use Rattle.std.proofs.Common.{not, ◌==◌, ◌+◌, false, arith}
 use Rattle.std.proofs.lemmas.Bool.{eqb-true}
+use Rattle.std.proofs.lemmas.List.{length-set}
 use Rattle.qs_conn.proofs.Marked.{none_in, summed_set, next_cleared, unmarked_set}
 use Rattle.qs_conn.proofs.Boths.{not_false}
 use Rattle.qs_conn.proofs.marks.Marks.turn_off.Goals as goal
@@ -11,4 +12,5 @@ invariant_of-self-else-eq c =
           (λ none. none_in _ _ _ c.word.ensures (eqb-true c.word.result 0 (not_false _ none))) c.set-2.ensures,
       rw c.set.ensures (unmarked_set c.self.inside.marks c.args.index (c.self.inside.last + 1) (c.self.inside.last + 1) false (omega arith) (λ is. cc) c.self.invariant.1),
       rw c.set.ensures (next_cleared c.self.inside.marks c.args.index there c.self.inside.first c.self.invariant.2 c.if-eq.ensures),
+      rw (c.set.ensures, length-set) c.self.invariant.3,
     )

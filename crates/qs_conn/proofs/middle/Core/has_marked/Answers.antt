@@ -29,4 +29,4 @@ returns c = λ e passed before.
     tells_more (end_of c.args.self.now e) c.loop-stream.is_found (and_below passed c.args.kind c.loop-stream.from) (and_kind passed c.args.kind) (adds_kind _ passed c.args.kind c.loop-stream.from (λ n le. c.in_default.ensures.idle n e le tt)) (c.loop-stream.invariant.due e passed before)
 
 pub has_slot-is_found-requires-clause-marked : goal.has_slot-is_found-requires-clause-marked
-has_slot-is_found-requires-clause-marked c = rw c.at.ensures (marked_at c.args.self.now.due c.args.kind c.in-Some.stream c.in-Some.ensures.marked)
+has_slot-is_found-requires-clause-marked c = rw c.at.ensures (marked_at c.args.self.now.due c.args.kind c.in-Some.stream c.in-Some.ensures.found.1)

@@ -16,5 +16,5 @@ pub returns : goal.returns
 returns c = λ e passed before.
     let self = c.args.self.now in
     let current = c.in-Some.ensures.current e in
-    tells_item (end_of self e) passed c.args.slot c.in-Some.item c.is_told.result current (told_covered self.limits self.recvs self.outbox e self.own self.due c.requires.core.own c.requires.core.due c.in-Some.item c.is_told.result c.is_told.ensures.told c.is_told.ensures.acked)
+    tells_item (end_of self e) passed c.args.slot c.in-Some.item c.is_told.result current (told_covered self.limits self.recvs self.outbox e self.own self.due c.requires.core.own c.requires.core.due c.in-Some.item c.is_told.result c.is_told.ensures.told c.is_told.ensures.acked current.0)
     (told_uncovered self.limits self.recvs self.outbox e self.own self.due c.requires.core.own c.requires.core.due c.in-Some.item c.is_told.result c.is_told.ensures.told c.is_told.ensures.acked c.args.slot current.1 c.requires.marked current.0) (rw c.if-is_found.false at before)

@@ -1,7 +1,11 @@
-use Rattle.qs_conn.proofs.DuePackets.{kind_idle, no_mark}
+use Rattle.qs_conn.proofs.DuePackets.{kind_idle}
+use Rattle.qs_conn.proofs.Marked.{found_by, unmarked_before}
 use Rattle.qs_conn.proofs.middle.Core.next_marked.Goals as goal
+
+pub returns-clause-found : goal.returns-clause-found
+returns-clause-found c = found_by _ c.args.from c.next.result (rw c.marks.ensures at c.next.ensures)
 
 pub returns-clause-idle : goal.returns-clause-idle
 returns-clause-idle c = λ n e le before.
     let self = c.args.self.now in
-    kind_idle self.limits self.recvs self.outbox e self.due c.requires.core.due n c.args.kind (no_mark _ n (λ b. (rw c.marks.ensures at c.next.ensures.unmarked) n b le before))
+    kind_idle self.limits self.recvs self.outbox e self.due c.requires.core.due n c.args.kind (unmarked_before _ c.args.from c.next.result (rw c.marks.ensures at c.next.ensures) n le before)

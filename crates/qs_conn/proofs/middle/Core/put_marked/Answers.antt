@@ -54,4 +54,4 @@ put_slot-packet-requires-clause-memory c =
     subst (λ k. HasMemory c.loop-stream.self (length c.loop-stream.out) c.loop-stream.packet.len k) (sym none) (c.loop-stream.invariant.filled.memory 0 c.requires.memory)
 
 pub put_slot-packet-requires-clause-marked : goal.put_slot-packet-requires-clause-marked
-put_slot-packet-requires-clause-marked c = rw c.at.ensures (marked_at c.loop-stream.self.due c.args.kind c.in-Some.stream c.in-Some.ensures.marked)
+put_slot-packet-requires-clause-marked c = rw c.at.ensures (marked_at c.loop-stream.self.due c.args.kind c.in-Some.stream c.in-Some.ensures.found.1)

@@ -15,7 +15,7 @@ returns-in_default-clause-stage c = λ wish room old e passed at before.
 pub returns-then-is_told-clause-stage : goal.returns-then-is_told-clause-stage
 returns-then-is_told-clause-stage c = λ wish room old e passed at before.
     let self = c.args.self.now in
-    let idle = idle_covered (end_of c.args.self.now e) c.args.slot c.in-Some.item (c.in-Some.ensures.current e) (told_covered self.limits self.recvs self.outbox e self.own self.due c.requires.filling.core.own c.requires.filling.core.due c.in-Some.item c.is_told.result c.is_told.ensures.told c.is_told.ensures.acked c.if-is_told.true) in
+    let idle = idle_covered (end_of c.args.self.now e) c.args.slot c.in-Some.item (c.in-Some.ensures.current e) (told_covered self.limits self.recvs self.outbox e self.own self.due c.requires.filling.core.own c.requires.filling.core.due c.in-Some.item c.is_told.result c.is_told.ensures.told c.is_told.ensures.acked (c.in-Some.ensures.current e).0 c.if-is_told.true) in
     stage_more wish room old (take c.args.packet.len c.args.out.now) (end_of c.args.self.now e) c.args.packet.is_full passed (and_slot passed c.args.slot) (adds_slot _ passed c.args.slot idle)
 
 pub returns-clause-stage : goal.returns-clause-stage
@@ -56,7 +56,7 @@ pub returns-then-is_told-clause-idle : goal.returns-then-is_told-clause-idle
 returns-then-is_told-clause-idle c = λ full e.
     let self = c.args.self.now in
     idle_covered (end_of self e) c.args.slot c.in-Some.item (c.in-Some.ensures.current e)
-    (told_covered self.limits self.recvs self.outbox e self.own self.due c.requires.filling.core.own c.requires.filling.core.due c.in-Some.item c.is_told.result c.is_told.ensures.told c.is_told.ensures.acked c.if-is_told.true)
+    (told_covered self.limits self.recvs self.outbox e self.own self.due c.requires.filling.core.own c.requires.filling.core.due c.in-Some.item c.is_told.result c.is_told.ensures.told c.is_told.ensures.acked (c.in-Some.ensures.current e).0 c.if-is_told.true)
 
 pub returns-clause-idle : goal.returns-clause-idle
 returns-clause-idle c = λ full e.

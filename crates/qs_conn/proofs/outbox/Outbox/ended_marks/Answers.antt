@@ -19,5 +19,5 @@ send_ends_marked ls k d ms len quiet n kind none (l, there, is) =
     let same = lookup_is ls n k (n / 4) d len (sym kind) refl in
     both_ways (send_ended s.lane) (quiet (n / 4) s (sym same ∙ in_ls) none) (ap send_ended lane ∙ is)
 
-pub returns-clause-none : goal.returns-clause-none
-returns-clause-none c = rw (← c.self.view_is) (send_ends_marked c.self.inside.types c.args.stream_type c.index-self-stream_type.result c.ended_marks.result.now c.self.invariant.2 c.ended_marks.ensures.none)
+pub returns : goal.returns
+returns c = rw (← c.self.view_is) (send_ends_marked c.self.inside.types c.args.stream_type c.index-self-stream_type.result c.ended_marks.result.now c.self.invariant.2 c.ended_marks.ensures)

@@ -1,4 +1,4 @@
-use Rattle.std.proofs.Common.{◌≡◌, ◌+◌, ◌-◌, ◌/◌, false, get_or, refl, arith, rules}
+use Rattle.std.proofs.Common.{◌≡◌, false, get_or, arith, rules}
 use Rattle.qs_machine.specs.Tables.{table}
 use Rattle.qs_conn.specs.Tasks.{IsSoughtAt, has}
 use Rattle.qs_conn.proofs.Marked.{clear_at, none_on}
@@ -15,7 +15,6 @@ returns-in-None-clause-least c = search (rules, sought_none)
 pub returns-then-not-may_have-clause-least : goal.returns-then-not-may_have-clause-least
 returns-then-not-may_have-clause-least c =
     let none : c.may_have.result ≡ false = grind (arith, c.if-not-may_have.true) in
-    let first = (c.args.from + 3 - c.args.stream_type) / 4 in
     let at = IsSoughtAt c.args.search (get_or c.args.types.now c.args.stream_type c.index-types-stream_type.result) (table c.args.told.now c.args.stream_type) in
-    sought_none c.args.search c.args.types.now c.args.told.now c.args.stream_type c.args.from first c.index-types-stream_type.result c.requires.len c.requires.stream_type refl
-    (none_on at first first (clear_at at first) (λ i ge p. both_ways (has c.args.search.task p.0.0) (c.may_have.ensures none i p.0.0 p.0.1) p.0.2))
+    sought_none c.args.search c.args.types.now c.args.told.now c.args.stream_type 0 0 c.index-types-stream_type.result c.requires.len c.requires.stream_type (omega (arith, c.requires.stream_type))
+    (none_on at 0 0 (clear_at at 0) (λ i ge p. both_ways (has c.args.search.task p.0.0) (c.may_have.ensures none i p.0.0 p.0.1) p.0.2))

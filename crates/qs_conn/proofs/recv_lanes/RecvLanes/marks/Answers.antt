@@ -3,6 +3,4 @@ use Rattle.qs_conn.proofs.Marked.{recv_mark_is}
 use Rattle.qs_conn.proofs.recv_lanes.RecvLanes.marks.Goals as goal
 
 pub returns : goal.returns
-returns c =
-    let are = c.self.invariant.noted c.args.task in
-    rw (← c.self.view_is, c.marks.ensures) (record { value = λ i. are.tell i ∙ recv_mark_is c.args.task c.self.inside.halves.items i; few = are.few })
+returns c i = rw (← c.self.view_is, c.marks.ensures) ((c.self.invariant.noted c.args.task).tell i ∙ recv_mark_is c.args.task c.self.inside.halves.items i)

@@ -5,6 +5,4 @@ use Rattle.qs_conn.proofs.Marked.{mark_at}
 use Rattle.qs_conn.proofs.send_lanes.SendLanes.ended_marks.Goals as goal
 
 pub returns : goal.returns
-returns c =
-    let are = c.self.invariant.1 tasks.Ended in
-    rw (← c.self.view_is, c.of.ensures) (record { none = λ i s at none. sym (mark_at (has tasks.Ended) c.self.inside.halves c.self.inside.marks.ended are i s at) ∙ none; few = are.few })
+returns c = rw (← c.self.view_is, c.of.ensures) (λ i s at none. sym (mark_at (has tasks.Ended) c.self.inside.halves c.self.inside.marks.ended (c.self.invariant.1 tasks.Ended) i s at) ∙ none)

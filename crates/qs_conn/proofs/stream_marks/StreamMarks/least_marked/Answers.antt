@@ -1,14 +1,8 @@
-use Rattle.std.proofs.Common.{◌≤◌, ◌≡◌, true}
-use Rattle.qs_machine.specs.Heard.{is_told}
-use Rattle.qs_conn.specs.Marks.{IsUnmarked}
-use Rattle.qs_conn.proofs.Marked.{all_kinds, four_have}
+use Rattle.std.proofs.Common.{sym, arith}
+use Rattle.qs_machine.proofs.TableEdits.{table_at}
+use Rattle.qs_conn.proofs.Marked.{four_told}
 use Rattle.qs_conn.proofs.stream_marks.StreamMarks.least_marked.Goals as goal
 
-pub returns-clause-from : goal.returns-clause-from
-returns-clause-from c = rw c.least_stream.ensures (four_have (λ n. c.args.from ≤ n) _ _ _ _ c.next_of.ensures.from c.next_of-2.ensures.from c.next_of-3.ensures.from c.next_of-4.ensures.from)
-
-pub returns-clause-marked : goal.returns-clause-marked
-returns-clause-marked c = rw c.least_stream.ensures (four_have (λ n. is_told c.args.self.now n ≡ true) _ _ _ _ c.next_of.ensures.marked c.next_of-2.ensures.marked c.next_of-3.ensures.marked c.next_of-4.ensures.marked)
-
-pub returns-clause-unmarked : goal.returns-clause-unmarked
-returns-clause-unmarked c = all_kinds IsUnmarked c.args.self.now c.args.from _ _ _ _ _ c.next_of.ensures.unmarked c.next_of-2.ensures.unmarked c.next_of-3.ensures.unmarked c.next_of-4.ensures.unmarked c.least_stream.ensures
+pub returns : goal.returns
+returns c =
+    rw (c.least_stream.ensures, ← c.self.view_is) (four_told _ c.args.from _ _ _ _ _ _ _ _ (sym (table_at c.self.inside.types 0 _ c.self.invariant (omega arith))) (sym (table_at c.self.inside.types 1 _ c.self.invariant (omega arith))) (sym (table_at c.self.inside.types 2 _ c.self.invariant (omega arith))) (sym (table_at c.self.inside.types 3 _ c.self.invariant (omega arith))) c.next_stream.ensures.least c.next_stream-2.ensures.least c.next_stream-3.ensures.least c.next_stream-4.ensures.least)
