@@ -8,7 +8,7 @@
 //! ```
 //! use gotsavena::{Dir, Endpoint, Read, Role, Settings};
 //! fn main() -> Result<(), Box<dyn std::error::Error>> {
-//!     let settings = Settings::default(); // 100 streams of each direction, 256 KiB of each in flight
+//!     let settings = Settings::default(); // 100 streams of each direction
 //!     let mut client = Endpoint::new(Role::Client, settings, settings.limits())?; // own, peer's
 //!     let mut server = Endpoint::new(Role::Server, settings, settings.limits())?;
 //!     let stream = client.open(Dir::Bidi)?;
