@@ -28,7 +28,8 @@ use Rattle.qs_wire.specs.declared.stream_id.Role.{Role}
 use Rattle.qs_calls.specs.declared.settings.Settings.{Settings}
 use Rattle.qs_conn.specs.declared.due.Due.{Due}
 use Rattle.qs_conn.specs.Layers.{stop_to_tell}
-use Rattle.qs_conn.specs.Due.{Packets, WasPut, IsToldIn, TellsStop, TellsLimit, TellsReset, TellsBlock, HasStop, IsWithinLimit, HasReset, HasBlocked, IsRightAt, AreRight, AreDue, IsWidenedAt, IsWidened, HasPlaces, put_mark, places, places_to, reset_at, item_marked, is_limit, recv_limit, limits_by, is_present, due_without, IsBlockedBy, IsNotedBlock}
+use Rattle.qs_conn.specs.Due.{Packets, WasPut, IsToldIn, TellsStop, TellsLimit, TellsReset, TellsBlock, HasStop, IsWithinLimit, HasReset, HasBlocked, IsRightAt, AreRight, AreDue, IsWidenedAt, IsWidened, HasPlaces, put_mark, places_to, reset_at, item_marked, is_limit, recv_limit, limits_by, is_present, due_without, IsBlockedBy, IsNotedBlock}
+use Rattle.qs_conn.specs.Marks.{places, last_beside}
 use Rattle.qs_conn.proofs.Untolds.{updated_here, updated_other, slots_changed, opened_some, stop_some, stop_of}
 use Rattle.qs_conn.proofs.Hearing.{window_same}
 
@@ -36,7 +37,7 @@ pub told_same : (i j : Item) → Told i ≡ Told j → i ≡ j
 told_same i j e = cc e
 
 pub wide_open : (n : ℕ) (t : Tables Bool) → IsWidened t (places n t)
-wide_open n t k = elim (lookup_open t n k (λ j. false)) [ inl same ↦ inr same | inr new ↦ inl new.0 ]
+wide_open n t k = elim (lookup_open t (last_beside n) k (λ j. false)) [ inl same ↦ inr same | inr new ↦ inl new.0 ]
 
 pub wide_by : (n : ℕ) (t u : Tables Bool) → u ≡ places n t → IsWidened t u
 wide_by n t u is = subst (IsWidened t) (sym is) (wide_open n t)
@@ -194,7 +195,7 @@ module _ {L V : Type 0} {at : ℕ → V → Item} {Tells : ℕ → L → V → T
       opened : (k : ℕ) → Here k (lookup (places n marks) k) (lookup (open_to lanes n begin) k)
       opened k = elim (lookup_open lanes n k begin) [
         | inl same ↦ rw same (placed k)
-        | inr (gone, kind, le, new) ↦ rw new (at_begun at Tells Within k p (lookup (places n marks) k) (begin k) (opened_some marks n k (λ j. false) kind le) (λ v. none k v kind) (subst (Here k (lookup (places n marks) k)) gone (placed k)))
+        | inr (gone, kind, le, new) ↦ rw new (at_begun at Tells Within k p (lookup (places n marks) k) (begin k) (opened_some marks (last_beside n) k (λ j. false) (omega (arith, kind)) (omega (arith, le))) (λ v. none k v kind) (subst (Here k (lookup (places n marks) k)) gone (placed k)))
       ]
 
   -- streams that opened are taken back

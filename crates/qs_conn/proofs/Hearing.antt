@@ -10,7 +10,7 @@ use Rattle.std.proofs.lemmas.Bool.Decides.{nat_tests}
 use Rattle.qs_recv.specs.Lane.{RecvLane, read_answer, bytes_of, bytes_read, after_answer, after_read, stop, stop_and_discard}
 use Rattle.qs_send.specs.Lane.{SendLane, refusal, write_lane, Sending, sent_lane, after_sent, accepted, free_room}
 use Rattle.qs_machine.specs.Tables.{Tables, type_of, lookup, table, index_of, updated}
-use Rattle.qs_machine.specs.Ends.{End, role_bit, is_uni, is_own, send_lane, recv_lane, on_send, on_recv, first_window_by, is_own_by}
+use Rattle.qs_machine.specs.Ends.{End, role_bit, is_uni, is_own, send_lane, recv_lane, on_send, on_recv, first_window_by}
 use Rattle.qs_machine.specs.News.{IsHeld, IsEnded, IsLeast, IsReadable, HasForPacket, IsSendable, IsWritable}
 use Rattle.qs_machine.specs.Heard.{is_told, Hearing, heard_opened, IsNews, IsNextOpened, IsFirstNews, ComesBefore, kind_of, subject_of, place_of, is_held_back, WasResetAcked, MayOpen, wants, TakesMemory, FirstTakesMemory}
 use Rattle.qs_conn.specs.Marks.{is_marked, AreMarksFor, both, untold, AreEndsMarked, IsBefore, IsNextMark, IsUntoldOf, least_of, IsUntold}
@@ -601,16 +601,6 @@ pub left_of : (o : Option ℕ) (window kept sum : ℕ) → o ≡ Some window →
 left_of o window kept sum is small told = rw is (ap Some (omega (arith, small, told)))
 
 -- ---- What is news at an end: the next stream that the peer opened, of those that its owner didn't hear of; and what a search for streams finds.
-
--- The streams of the peer's
-
-theirs : (r : Role) (n : ℕ) → is_own_by r n ≡ false → type_of n % 2 ≡ 1 - role_bit r
-theirs r n is = grind (arith, nat_tests)
-
--- what there is of a stream of such a type
-pub record IsTheirs (e : End) (d : Dir) (n : ℕ) : Type 0 where
-  pub theirs : is_own e n ≡ false
-  pub dir : dir_of n ≡ d
 
 -- The next one of a direction
 abbrev NextOf : End → Hearing → Dir → ℕ → Type 0

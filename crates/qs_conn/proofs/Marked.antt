@@ -2,7 +2,7 @@
 use Rattle.std.specs.FinSet as set
 use Rattle.qs_conn.specs.declared.recv_marks.RecvTask.TheVariants as tasks
 use Rattle.std.proofs.lemmas.Bool.Decides.{nat_tests}
-use Rattle.std.proofs.Common.{◌≡◌, ℕ, zero, suc, ◌+◌, ◌-◌, ◌*◌, ◌/◌, ◌%◌, min, ◌<◌, ◌≤◌, ◌^◌, Bool, true, false, List, [], ◌∷◌, ◌++◌, map, length, get_or, replicate, Option, None, Some, slice_get, refl, sym, ap, ◌∙◌, subst, arith, inl, inr, set, Result, ◌⊎◌, unwrap_or, not, ◌≢◌, ◌==◌, take, max, w64, ◌&&◌, ◌||◌, is_some}
+use Rattle.std.proofs.Common.{◌≡◌, ℕ, zero, suc, ◌+◌, ◌-◌, ◌*◌, ◌/◌, ◌%◌, min, ◌<◌, ◌≤◌, ◌^◌, Bool, true, false, List, [], ◌∷◌, ◌++◌, map, length, get_or, replicate, Option, None, Some, slice_get, refl, sym, ap, ◌∙◌, subst, arith, inl, inr, set, Result, Ok, Err, ◌⊎◌, unwrap_or, not, ◌≢◌, ◌==◌, take, max, w64, ◌&&◌, ◌||◌, is_some}
 use Rattle.std.specs.List.{range_with_len}
 use Rattle.std.specs.Option.{IfSome, option_eq}
 use Rattle.std.proofs.lemmas.Bool.{cases_lt, both_ways, cases_eq, and_parts, not-true, true≢false, eqb-false, eq-eqb}
@@ -10,10 +10,11 @@ use Rattle.std.proofs.lemmas.List.{length-append, length-replicate, get_or_past,
 use Rattle.std.proofs.lemmas.Option.{none-some, same_Some, get_or_from_slice_get, unwrap_or-slice_get, slice_get_within}
 use Rattle.std.specs.Result.{OnOk, OnErr}
 use Rattle.qs_conn.specs.Marks.{IsClear as IsUntoldClear}
-use Rattle.qs_conn.specs.Marks.{is_marked, AreMarksFor, HasRoom, IsClearedFrom, IsWider, IsBefore as IsMarkBefore, IsNextMark, IsMarkedOf, least_of, IsAt, IsHeldOf, IsMarkedBeside, both, untold, IsUntold, HasNoMark, HasAllMarks, AreSummed, AreMarkedBelow, AreUnmarkedFrom, AreFull, AreEndsMarked, IsUntoldOf}
+use Rattle.qs_conn.specs.Marks.{is_marked, IsUnmarked, AreClear, places, last_beside, AreMarksFor, HasRoom, IsClearedFrom, IsWider, IsBefore as IsMarkBefore, IsNextMark, IsMarkedOf, least_of, IsAt, IsHeldOf, IsMarkedBeside, both, untold, IsUntold, HasNoMark, HasAllMarks, AreSummed, AreMarkedBelow, AreUnmarkedFrom, AreFull, AreEndsMarked, IsUntoldOf}
 use Rattle.qs_machine.specs.Sums.{changed, tables_of}
 use Rattle.qs_machine.specs.Tables.{Tables, lookup, widened, type_of, table, no_streams}
-use Rattle.qs_machine.proofs.TableEdits.{lookup_is, with_is, table_is, opened_updated}
+use Rattle.qs_machine.proofs.TableEdits.{lookup_is, with_is, table_is, opened_updated, opened_is}
+use Rattle.qs_machine.proofs.TableLaws.{lookup_open}
 use Rattle.std.specs.Prelude.{option_map}
 use Rattle.qs_machine.specs.News.{IsLeast, IsHeld}
 use Rattle.qs_machine.specs.Heard.{is_told, IsToldBeside}
@@ -103,6 +104,22 @@ has_each {X} Q ls d0 d1 d2 d3 len q0 q1 q2 q3 n x at = go (n % 4) refl (omega ar
     go (suc (suc zero)) e lt = q2 (n / 4) x (there 2 d2 e)
     go (suc (suc (suc zero))) e lt = q3 (n / 4) x (there 3 d3 e)
     go (suc (suc (suc (suc k)))) e lt = absurd (omega (arith, lt))
+
+-- ---- No stream has a mark.
+
+pub clear_four : (a b c d : List Bool) → a ≡ [] → b ≡ [] → c ≡ [] → d ≡ [] → AreClear (tables_of (a ∷ b ∷ c ∷ d ∷ []))
+clear_four a b c d ea eb ec ed = has_each IsUnmarked (a ∷ b ∷ c ∷ d ∷ []) [] [] [] [] refl (here a ea) (here b eb) (here c ec) (here d ed)
+  where
+    here : (xs : List Bool) → xs ≡ [] → (i : ℕ) (x : Bool) → slice_get xs i ≡ Some x → IsUnmarked x
+    here xs e = none_at xs (λ i. ap (λ ys. is_marked ys i) e)
+
+-- places come, or are refused
+clear_open : (t : Tables Bool) (n : ℕ) → AreClear t → AreClear (places n t)
+clear_open t n none m b at = elim (lookup_open t (last_beside n) m (λ j. false)) [ inl same ↦ none m b (sym same ∙ at) | inr new ↦ sym (same_Some false b (sym new.3 ∙ at)) ]
+
+pub clear_placed : {E : Type 0} (r : Result (Unit {0}) E) (ls : List (List Bool)) (n k i : ℕ) (d ys : List Bool) → length ls ≡ 4 → k ≡ last_beside n % 4 → i ≡ last_beside n / 4 → OnOk r (ys ≡ widened (get_or ls k d) (i + 1) (λ j. false)) → OnErr r (ys ≡ get_or ls k d) → AreClear (tables_of ls) → AreClear (tables_of (set ls k ys))
+clear_placed (Ok x) ls n k i d ys len kind index ok err none = subst AreClear (sym (opened_is ls (last_beside n) k i d ys (λ m. false) len kind index ok)) (clear_open (tables_of ls) n none)
+clear_placed (Err x) ls n k i d ys len kind index ok err none = subst (λ zs. AreClear (tables_of zs)) (sym (ap (set ls k) err ∙ set-get_or ls k d)) none
 
 -- ---- Searches for the least number with a property.
 
@@ -608,22 +625,29 @@ module _ {A E : Type 0} (r : Result A E) (marks full marks_now full_now : List B
   pub full_open : OnOk r (marks_now ≡ marks ++ replicate (count - length marks) false) → OnErr r (marks_now ≡ marks) → AreFull marks_now full_now
   full_open = grind (arith, nat_tests, replicate, length-append, length-replicate, padded)
 
+-- an index loses its mark, and its word the flag
+pub full_less : (marks full now : List Bool) (i : ℕ) → AreFull marks full → i < length marks → now ≡ set marks i false → AreFull now (set full (i / 64) false)
+full_less marks full now i are there is = grind (arith, common_steps, all_in)
+
+-- one gets a mark, and flags stay
+pub full_more : (marks full now : List Bool) (i : ℕ) → AreFull marks full → i < length marks → now ≡ set marks i true → AreFull now full
+full_more marks full now i are there is = grind (arith, common_steps, all_in)
+
 -- each index of that word is marked now
-pub full_here : (marks full marks_now full_now : List Bool) (i w : ℕ) (b : Bool) → AreFull marks full → i < length marks → marks_now ≡ set marks i b → IsWordOf marks_now (i / 64) w → w ≡ 2 ^ 64 - 1 → full_now ≡ set full (i / 64) (w == 2 ^ 64 - 1)
-    → AreFull marks_now full_now × (full_now ≡ set full (i / 64) true)
-full_here marks full marks_now full_now i w b are there is of whole flags = grind (arith, common_steps, all_in)
+pub full_here : (marks full now full_now : List Bool) (i w : ℕ) → AreFull marks full → i < length marks → now ≡ set marks i true → IsWordOf now (i / 64) w → w ≡ 2 ^ 64 - 1 → full_now ≡ set full (i / 64) true → AreFull now full_now
+full_here marks full now full_now i w are there is of whole flags = grind (arith, common_steps, all_in)
 
 -- below a word each has a flag
 pub below_opened : (full : List Bool) (n first : ℕ) → AreMarkedBelow full first → AreMarkedBelow (full ++ replicate n false) first
 below_opened full n first below i lt = padded full n i false ∙ below i lt
 
-module _ (full : List Bool) (word : ℕ) (there : word < length full) where
-  pub below_more : (first : ℕ) → AreMarkedBelow full first → AreMarkedBelow (set full word true) first
+module _ (full full_now : List Bool) (word : ℕ) (there : word < length full) (is : full_now ≡ set full word true) where
+  pub below_more : (first : ℕ) → AreMarkedBelow full first → AreMarkedBelow full_now first
   below_more first below i lt = grind (arith, get_or-set_at full word i true false, get_or-set_other full word i true false, below i)
 
   -- and the next one has one now
-  pub below_next : AreMarkedBelow full word → AreMarkedBelow (set full word true) (word + 1)
-  below_next below i lt = grind (arith, get_or-set_at full word i true false, get_or-set_other full word i true false, below i)
+  pub below_next : (first : ℕ) → first ≡ word → AreMarkedBelow full first → AreMarkedBelow full_now (word + 1)
+  below_next first at below i lt = grind (arith, get_or-set_at full word i true false, get_or-set_other full word i true false, below i)
 
 -- below the first bit that isn't set in the first word without a flag, each is marked
 pub below_here : (marks full : List Bool) (first w : ℕ) (r : Option ℕ) → AreFull marks full → AreMarkedBelow full first → IsWordOf marks first w → w < 2 ^ 64 → IsLowestBit (bit_not w64 w) 0 r → (below : ℕ) → below ≤ first * 64 + unwrap_or r 64 → AreMarkedBelow marks below

@@ -11,7 +11,7 @@ use Rattle.qs_send.specs.declared.piece.Item.{Item}
 use Rattle.qs_send.specs.declared.piece.Item.TheVariants.{MaxStreamData, ResetStream, StopSending, StreamDataBlocked}
 use Rattle.qs_send.specs.declared.piece.Piece.{Piece}
 use Rattle.qs_send.specs.declared.piece.Piece.TheVariants.{Data, Told}
-use Rattle.qs_machine.specs.Tables.{Tables, with_table, lookup, updated, open_to}
+use Rattle.qs_machine.specs.Tables.{Tables, with_table, lookup, updated}
 use Rattle.qs_machine.specs.Ends.{Records, AckedItems, first_window_by}
 use Rattle.qs_machine.specs.Told.{IsNoted}
 use Rattle.qs_machine.specs.Heard.{is_told}
@@ -22,6 +22,7 @@ use Rattle.qs_conn.specs.declared.slot.Slot.{Slot}
 use Rattle.qs_conn.specs.declared.slot.Kind.{Kind}
 use Rattle.qs_conn.specs.declared.slot.Kind.TheVariants as kinds
 use Rattle.qs_conn.specs.Filling.{slot_at}
+use Rattle.qs_conn.specs.Marks.{places}
 
 -- What packets told
 
@@ -144,10 +145,7 @@ pub record HasPlaces (t u : Due) : Type 0 where
   pub resets : IsWidened t.resets u.resets
   pub blocks : IsWidened t.blocks u.blocks
 
--- there is a place for each stream up to one
-abbrev pub places : ℕ → Tables Bool → Tables Bool
-places n t = open_to t n (λ k. false)
-
+-- there is a place for each stream beside one, and below
 abbrev pub places_to : ℕ → Due → Due
 places_to n t = record { stops = places n t.stops; limits = places n t.limits; resets = places n t.resets; blocks = places n t.blocks }
 

@@ -1,8 +1,8 @@
 -- Of private contracts.
 -- Which streams may have something to send or to tell: a mark for each index, and streams that have nothing.
-use Rattle.std.specs.Prelude.{◌≡◌, ℕ, ◌+◌, ◌*◌, ◌/◌, ◌≤◌, ◌<◌, ◌⊎◌, length, map, Bool, true, false, not, ◌&&◌, List, [], ◌∷◌, slice_index_or, slice_get, slice_set, min, Option, None, Some}
+use Rattle.std.specs.Prelude.{◌≡◌, ℕ, ◌+◌, ◌*◌, ◌/◌, ◌%◌, ◌≤◌, ◌<◌, ◌⊎◌, length, map, Bool, true, false, not, ◌&&◌, List, [], ◌∷◌, slice_index_or, slice_get, slice_set, min, Option, None, Some}
 pub use Rattle.qs_ranges.specs.Bits.{IsBefore}
-use Rattle.qs_machine.specs.Tables.{Tables, type_of, widened}
+use Rattle.qs_machine.specs.Tables.{Tables, type_of, widened, lookup, open_to}
 use Rattle.qs_machine.specs.Sums.{changed}
 use Rattle.qs_send.specs.declared.piece.Item.{Item}
 use Rattle.qs_conn.specs.declared.slot.Slot.{Slot}
@@ -43,6 +43,18 @@ IsMarkedBeside n old new = new ≡ slice_set (widened old (n + 1) (λ i. false))
 -- an index isn't marked any more, where it is there, and nothing else changes
 abbrev pub IsUnmarkedBeside : ℕ → List Bool → List Bool → Type 0
 IsUnmarkedBeside n old new = new ≡ changed old n (λ mark. false) (slice_get old n)
+
+-- the last of the 64 streams of its type whose marks stand beside that of one
+abbrev pub last_beside : ℕ → ℕ
+last_beside n = n / 256 * 256 + 252 + n % 4
+
+-- there is a place for each stream up to that one
+abbrev pub places : ℕ → Tables Bool → Tables Bool
+places n t = open_to t (last_beside n) (λ k. false)
+
+-- no stream has a mark
+abbrev pub AreClear : Tables Bool → Type 0
+AreClear t = (n : ℕ) (b : Bool) → lookup t n ≡ Some b → b ≡ false
 
 -- there is room for the marks of so many parts, in whole blocks
 abbrev pub HasRoom : ℕ → List Bool → Type 0

@@ -80,6 +80,9 @@ impl Marks {
         ensures ok { OnOk result (self.new ≡ self.old ++ replicate (count - length self.old) false) }
         ensures err { OnErr result (self.new ≡ self.old) }
     {
+        if count <= self.len() {
+            return Ok(());
+        }
         // More words than there are marks for sum up the same marks.
         self.words.open_to(count.div_ceil(FLAGS_PER_WORD))?;
         self.marks.open_to(count)

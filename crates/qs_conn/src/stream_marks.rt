@@ -1,9 +1,12 @@
 //! A mark for each stream that has a place, by type and index.
-ghost use Rattle.std.specs.Prelude.{◌≡◌, ◌≤◌, ◌^◌, ℕ, Bool, true, false, Some, OnOk, OnErr};
-ghost use Rattle.qs_machine.specs.Tables.{no_streams, lookup, updated, open_to};
+ghost use Rattle.std.specs.Prelude.{◌≡◌, ◌≤◌, ◌^◌, true, false, length, OnOk, OnErr};
+ghost use Rattle.qs_machine.specs.Tables.{no_streams, lookup, updated};
+ghost use Rattle.qs_machine.specs.Sums.{tables_of};
+ghost use Rattle.qs_conn.specs.Marks.{AreClear, places};
 ghost use Rattle.qs_machine.specs.Heard.{is_told};
 ghost use Rattle.qs_machine.specs.News.{IsLeast};
 
+use crate::bits::FLAGS_PER_WORD;
 use crate::marks::Marks;
 use crate::places::{index_of, least_stream, type_of};
 use qs_ranges::NoMemory;
@@ -16,14 +19,17 @@ use std::marker::Model;
 pub(crate) struct StreamMarks {
     // In the order of the two lowest bits of a stream's number.
     types: [Marks; 4],
+    // Without it no stream has a mark: one look before each packet.
+    has_some: bool,
 }
 
 impl Model for StreamMarks {
-    ghost use Rattle.std.specs.Prelude.{◌≡◌, length, Bool};
+    ghost use Rattle.std.specs.Prelude.{◌≡◌, length, Bool, false};
     ghost use Rattle.std.specs.Coded.{coded_bool};
     ghost use Rattle.qs_machine.specs.Tables.{Tables};
     ghost use Rattle.qs_machine.specs.EndCodes.{tables_code};
     ghost use Rattle.qs_machine.specs.Sums.{tables_of};
+    ghost use Rattle.qs_conn.specs.Marks.{AreClear};
 
     ghost Value = { Tables Bool };
 
@@ -31,7 +37,7 @@ impl Model for StreamMarks {
 
     ghost view = { λ u. tables_of u.types };
 
-    ghost invariant = { λ u. length u.types ≡ 4 };
+    ghost invariant = { λ u. (length u.types ≡ 4) × (u.has_some ≡ false → AreClear (tables_of u.types)) };
 }
 
 impl StreamMarks {
@@ -45,15 +51,18 @@ impl StreamMarks {
                 Marks::new(alloc),
                 Marks::new(alloc),
             ],
+            has_some: false,
         }
     }
 
     pub(crate) fn open_to(&mut self, stream: StreamId) -> Result<(), NoMemory>
-        ensures ok { OnOk result (self.new ≡ open_to self.old stream (λ n. false)) }
+        ensures ok { OnOk result (self.new ≡ places stream self.old) }
         ensures err { OnErr result (self.new ≡ self.old) }
     {
         let lanes = &mut self.types[type_of(stream)];
-        lanes.open_to(index_of(stream) + 1)
+        // By whole words, so that mostly there is room.
+        let last = index_of(stream) / FLAGS_PER_WORD * FLAGS_PER_WORD + 63;
+        lanes.open_to(last + 1)
     }
 
     pub(crate) fn set(&mut self, stream: StreamId, is_marked: bool)
@@ -61,6 +70,7 @@ impl StreamMarks {
     {
         let lanes = &mut self.types[type_of(stream)];
         lanes.set(index_of(stream), is_marked);
+        self.has_some = is_marked || has_mark(&self.types);
     }
 
     #[tactic(auto, using(crate::proofs::Marked::none_least))]
@@ -90,17 +100,25 @@ impl StreamMarks {
 
     #[inline(always)]
     pub(crate) fn may_have(&self) -> bool
-        ensures { result ≡ false → (n : ℕ) (b : Bool) → lookup self.now n ≡ Some b → b ≡ false }
+        ensures { result ≡ false → AreClear self.now }
     {
-        if self.types[0].may_have() {
-            return true;
-        }
-        if self.types[1].may_have() {
-            return true;
-        }
-        if self.types[2].may_have() {
-            return true;
-        }
-        self.types[3].may_have()
+        self.has_some
     }
+}
+
+// Whether a type has a mark.
+fn has_mark(types: &[Marks; 4]) -> bool
+    requires { length types.now ≡ 4 }
+    ensures { result ≡ false → AreClear (tables_of types.now) }
+{
+    if types[0].may_have() {
+        return true;
+    }
+    if types[1].may_have() {
+        return true;
+    }
+    if types[2].may_have() {
+        return true;
+    }
+    types[3].may_have()
 }

@@ -69,7 +69,7 @@ impl ToldMarks {
         self.marks.open_to(count)
     }
 
-    #[tactic(auto, using(crate::proofs::Marked::full_here, crate::proofs::Marked::below_more, crate::proofs::Marked::below_next))]
+    #[tactic(auto, using(crate::proofs::Marked::full_here, crate::proofs::Marked::full_less, crate::proofs::Marked::full_more, crate::proofs::Marked::below_more, crate::proofs::Marked::below_next))]
     pub(crate) fn set(&mut self, index: usize, is_marked: bool)
         requires { index < length self.old }
         ensures { self.new ≡ slice_set self.old index is_marked }
@@ -79,12 +79,14 @@ impl ToldMarks {
         }
         self.marks.set(index, is_marked);
         let word = index / FLAGS_PER_WORD;
-        let is_full = self.marks.bits().word(word) == u64::MAX;
-        self.full.set(word, is_full);
-        if !is_full {
+        if !is_marked {
+            self.full.set(word, false);
             self.first = self.first.min(word);
-        } else if self.first == word {
-            self.first = word + 1;
+        } else if self.marks.bits().word(word) == u64::MAX {
+            self.full.set(word, true);
+            if self.first == word {
+                self.first = word + 1;
+            }
         }
     }
 

@@ -519,6 +519,9 @@ none_lost : (lo hi n : ℕ) → hi ≤ n → set.union set.empty (set.difference
 none_lost lo hi n le =
     same_numbers _ _ (λ q. grind (arith, nat_tests, has_union set.empty (set.difference (numbers lo hi) (numbers 0 n)) q, has_difference (numbers lo hi) (numbers 0 n) q, contains-numbers lo hi q, contains-numbers 0 n q))
 
+pub rest_sent : (n end : ℕ) → end ≤ n → parts_at_rest n ≡ with_sent (parts_at_rest n) end
+rest_sent n end le = let same : max n end ≡ n = omega arith in rw (nothing-due (numbers 0 end), same) refl
+
 pub rest_acked : (n lo hi : ℕ) → hi ≤ n → parts_at_rest n ≡ with_acked (parts_at_rest n) lo hi
 rest_acked n lo hi le = rw (drop_all {X = ℕ} (missing_from (set.union (numbers 0 n) (numbers lo hi)) 0 - missing_from (numbers 0 n) 0) [] (omega arith), more_of_all lo hi n le, nothing-due (numbers lo hi)) refl
 
@@ -548,6 +551,15 @@ nothing_kept kept le = grind (arith, common_steps)
 
 pub all_sent : (w e : ℕ) (acked : NumberSet) → AllBelow acked e → e ≤ w → IsLeastMissingFrom acked 0 w → e ≡ w
 all_sent w e acked below le is = grind (arith, nat_tests)
+
+-- where each is acknowledged they are at rest
+pub rests_when : (w e : ℕ) (kept : List ℕ) (acked noted : NumberSet) → AreOffsets w e kept acked noted → IsLeastMissingFrom acked 0 w → record { written = w; kept = kept; acked = acked; due = set.difference noted acked; sent_end = e } ≡ parts_at_rest w
+rests_when w e kept acked noted h is =
+    let low = missing_from-of acked 0 w is in
+    let none = nothing_kept kept (grind (arith, h.kept_from)) in
+    let all : acked ≡ numbers 0 w = same_numbers _ _ (λ q. grind (arith, nat_tests, contains-numbers 0 w q, h.acked_sent q)) in
+    let idle : set.difference noted acked ≡ set.empty = same_numbers _ _ (λ q. grind (arith, nat_tests, has_difference noted acked q, set.contains-empty nat_cmp q, is.all_before q)) in
+    rw (idle, none, all, all_sent w e acked h.acked_sent h.sent_written is) refl
 
 -- Steps
 

@@ -1,6 +1,6 @@
 -- Of private contracts.
 -- The written offsets of a sending half, as what is kept of them, and what each step leaves.
-use Rattle.std.specs.Prelude.{◌≡◌, ℕ, ◌+◌, ◌-◌, ◌<◌, ◌≤◌, max, List, [], ◌++◌, length, drop, Option, option_map, refl}
+use Rattle.std.specs.Prelude.{◌≡◌, ℕ, ◌+◌, ◌-◌, ◌<◌, ◌≤◌, max, List, [], ◌++◌, length, drop, Option, None, Some, option_map, IfSome, refl}
 use Rattle.std.specs.FinSet as set
 use Rattle.std.specs.Coded.{Coded, code_by, coded×, coded_ℕ, coded_list}
 use Rattle.qs_ranges.specs.Numbers.{MAX_VARINT, NumberSet, AllBelow, numbers, missing_from}
@@ -37,6 +37,15 @@ parts_at_rest n = record { written = n; kept = []; acked = numbers 0 n; due = se
 abbrev pub at_rest : ℕ → HeldParts
 at_rest n = record { parts = parts_at_rest n; room = 0 }
 
+-- so many offsets, of which those that are live are held, if any are
+abbrev pub held_in : ℕ → Option HeldParts → HeldParts
+held_in n None = at_rest n
+held_in n (Some live) = live
+
+-- the live ones are as many
+abbrev pub AgreesOn : ℕ → Option HeldParts → Type 0
+AgreesOn n live = IfSome live (λ h. h.parts.written ≡ n)
+
 -- the bytes follow those written before, and their offsets are due
 abbrev pub with_written : Parts → List ℕ → Parts
 with_written p bytes =
@@ -67,7 +76,7 @@ with_lost p lo hi = record p { due = set.union p.due (set.difference (numbers lo
 abbrev pub with_none : Parts → Parts
 with_none p = record p { kept = []; due = set.empty }
 
--- What holds of them: what was sent was written, what is acknowledged was sent, what was noted as due was
+-- What holds of offsets that aren't at rest: what was sent was written, what is acknowledged was sent, what was noted as due was
 -- written, and the bytes that are kept, if any are, are those from the lowest offset not acknowledged on.
 pub record AreOffsets (written sent_end : ℕ) (kept : List ℕ) (acked noted : NumberSet) : Type 0 where
   pub small : written ≤ MAX_VARINT

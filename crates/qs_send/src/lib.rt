@@ -11,6 +11,7 @@ mod half;
 mod halves;
 mod kept;
 pub mod laws;
+mod live_offsets;
 mod lost_pass;
 mod lost_record;
 mod lost_records;

@@ -1,50 +1,45 @@
-//! The written offsets of a half: which are still to be sent or acknowledged, and the bytes of those.
-ghost use Rattle.std.specs.FinSet as set;
-ghost use Rattle.std.specs.Prelude.{◌≡◌, ℕ, ◌+◌, ◌-◌, ◌*◌, ◌≤◌, ◌<◌, true, false, ◌++◌, length, take, drop, OnOk, OnErr, IfSome, IfNone};
+//! The written offsets of a half. Those that are all acknowledged take no memory.
+ghost use Rattle.std.specs.Prelude.{◌≡◌, ℕ, ◌+◌, ◌-◌, ◌*◌, ◌≤◌, ◌<◌, true, ◌++◌, length, take, drop, OnOk, OnErr, IfSome, IfNone};
 ghost use Rattle.qs_ranges.specs.Numbers.{MAX_VARINT, missing_from, MissesRange, IsRunFrom, EndsBefore};
 ghost use Rattle.qs_send.specs.Offsets.{at_rest, with_written, with_sent, with_acked, with_lost, with_none};
 
-use crate::edits::{add, forget};
-use crate::kept::Kept;
-use qs_ranges::{NoMemory, RangeSet};
+use crate::live_offsets::LiveOffsets;
+use qs_ranges::NoMemory;
 use std::alloc::Global;
 use std::marker::Model;
 
+/// Without a box as a half begins, and again once its last ACK has come: most streams are then over, and stay for the connection's life. In
+/// between the box stays, since a stream that is written to again would take it anew.
 #[derive(Drop)]
 pub(crate) struct Offsets {
+    alloc: Global,
     written: u64,
-    // From the lowest unacknowledged offset on, since a buffer frees only at its front.
-    kept: Kept,
-    acked: RangeSet,
-    // As due; those of them that aren't acknowledged are. So acknowledging need not touch this set, which might want memory.
-    noted: RangeSet,
-    sent_end: u64,
+    // None: each offset is acknowledged, and nothing is kept or due.
+    live: Option<Box<LiveOffsets>>,
 }
 
 impl Model for Offsets {
-    ghost use Rattle.std.specs.FinSet as set;
-    ghost use Rattle.qs_send.specs.Offsets.{HeldParts, AreOffsets, held_parts_code};
+    ghost use Rattle.std.specs.Prelude.{◌≤◌, option_map};
+    ghost use Rattle.qs_ranges.specs.Numbers.{MAX_VARINT};
+    ghost use Rattle.qs_send.specs.Offsets.{HeldParts, held_parts_code, held_in, AgreesOn};
 
     ghost Value = { HeldParts };
 
     ghost coded = { held_parts_code };
 
-    ghost view = { λ o. record { parts = record { written = o.written; kept = o.kept.bytes; acked = o.acked; due = set.difference o.noted o.acked; sent_end = o.sent_end }; room = o.kept.room } };
+    ghost view = { λ o. held_in o.written (option_map (λ b. b.value) o.live) };
 
-    ghost invariant = { λ o. AreOffsets o.written o.sent_end o.kept.bytes o.acked o.noted };
+    ghost invariant = { λ o. (o.written ≤ MAX_VARINT) × AgreesOn o.written (option_map (λ b. b.value) o.live) };
 }
 
 impl Offsets {
-    /// None was written. They take no memory: a stream that is opened may never carry a byte.
     pub(crate) fn new(alloc: Global) -> Self
         ensures { result ≡ at_rest 0 }
     {
         Self {
+            alloc,
             written: 0,
-            kept: Kept::new(alloc),
-            acked: RangeSet::new(alloc),
-            noted: RangeSet::new(alloc),
-            sent_end: 0,
+            live: None,
         }
     }
 
@@ -60,20 +55,30 @@ impl Offsets {
     pub(crate) fn sent_end(&self) -> u64
         ensures { result ≡ self.now.parts.sent_end }
     {
-        self.sent_end
+        match &self.live {
+            None => self.written,
+            Some(live) => live.sent_end(),
+        }
     }
 
+    #[tactic(auto, using(crate::proofs::Steps::rest_missing))]
     pub(crate) fn unacked_from(&self) -> u64
         ensures { result ≡ missing_from self.now.parts.acked 0 }
     {
-        self.acked.first_missing(0)
+        match &self.live {
+            None => self.written,
+            Some(live) => live.unacked_from(),
+        }
     }
 
     #[inline(always)]
     pub(crate) fn kept_len(&self) -> usize
         ensures { result ≡ length self.now.parts.kept }
     {
-        self.kept.len()
+        match &self.live {
+            None => 0,
+            Some(live) => live.kept_len(),
+        }
     }
 
     pub(crate) fn held(&self) -> usize
@@ -81,7 +86,10 @@ impl Offsets {
         ensures kept { length self.now.parts.kept ≤ result }
         ensures idle { length self.now.parts.kept ≡ 0 → result ≤ 4096 }
     {
-        self.kept.held()
+        match &self.live {
+            None => 0,
+            Some(live) => live.held(),
+        }
     }
 
     #[inline(always)]
@@ -89,7 +97,10 @@ impl Offsets {
         requires { from + len ≤ length self.now.parts.kept }
         ensures { result.0.now ++ result.1.now ≡ take len (drop from self.now.parts.kept) }
     {
-        self.kept.part(from, len)
+        match &self.live {
+            None => (&[], &[]),
+            Some(live) => live.part(from, len),
+        }
     }
 
     pub(crate) fn write(&mut self, bytes: &[u8], most: usize) -> Result<(), NoMemory>
@@ -99,28 +110,45 @@ impl Offsets {
         ensures err { OnErr result (self.new.parts ≡ self.old.parts) }
         ensures room { length self.old.parts.kept + length bytes.now ≤ most → self.old.room ≤ 2 * most → self.new.room ≤ 2 * most }
     {
-        let before = self.kept.len();
-        let end = self.written + bytes.len() as u64;
-        self.kept.append(bytes, most)?;
-        if let Err(fault) = self.noted.insert(self.written, end) {
-            self.kept.truncate(before);
-            return Err(fault);
-        }
-        self.written = end;
+        let Some(live) = &mut self.live else {
+            return self.begin(bytes, most);
+        };
+        live.write(bytes, most)?;
+        self.written += bytes.len() as u64;
         Ok(())
     }
 
+    // The first bytes of a half take its box: the one allocation besides the buffer.
+    fn begin(&mut self, bytes: &[u8], most: usize) -> Result<(), NoMemory>
+        requires rest { self.old ≡ at_rest self.old.parts.written }
+        requires from { missing_from self.old.parts.acked 0 + length self.old.parts.kept ≡ self.old.parts.written }
+        requires small { self.old.parts.written + length bytes.now ≤ MAX_VARINT }
+        ensures ok { OnOk result (self.new.parts ≡ with_written self.old.parts bytes.now) }
+        ensures err { OnErr result (self.new.parts ≡ self.old.parts) }
+        ensures room { length self.old.parts.kept + length bytes.now ≤ most → self.old.room ≤ 2 * most → self.new.room ≤ 2 * most }
+    {
+        let mut live = Box::new(self.alloc, LiveOffsets::at_rest(self.alloc, self.written))?;
+        live.write(bytes, most)?;
+        self.written += bytes.len() as u64;
+        self.live = Some(live);
+        Ok(())
+    }
+
+    #[inline(always)]
+    #[tactic(auto, using(crate::proofs::Steps::rest_sent))]
     pub(crate) fn sent(&mut self, end: u64)
         requires { end ≤ self.old.parts.written }
         ensures parts { self.new.parts ≡ with_sent self.old.parts end }
         ensures room { self.new.room ≡ self.old.room }
     {
-        let before = self.sent_end;
-        self.noted.drop_below(end);
-        self.sent_end = before.max(end);
+        let Some(live) = &mut self.live else {
+            return;
+        };
+        live.sent(end);
     }
 
-    /// Once nothing is left and nothing more comes, the buffer's memory goes. Unchanged if memory was refused.
+    /// With the last ACK the box goes. Unchanged if memory was refused.
+    #[tactic(auto, using(crate::proofs::Steps::rest_acked))]
     pub(crate) fn acked(&mut self, lo: u64, hi: u64, is_over: bool) -> Result<(), NoMemory>
         requires ordered { lo ≤ hi }
         requires sent { hi ≤ self.old.parts.sent_end }
@@ -133,16 +161,18 @@ impl Offsets {
         ensures some { OnErr result (lo < hi) }
         ensures grows { OnErr result (MissesRange self.old.parts.acked (lo - 1) (hi + 1)) }
     {
-        let from = self.written - self.kept.len() as u64;
-        add(&mut self.acked, lo, hi)?;
-        // It needn't stay noted, and each run that goes is one fewer to search.
-        forget(&mut self.noted, lo, hi);
-        let low = self.acked.first_missing(0);
-        self.kept.let_go(low.saturating_sub(from) as usize, is_over);
+        let Some(live) = &mut self.live else {
+            return Ok(());
+        };
+        live.acked(lo, hi, is_over)?;
+        if is_over && live.rests() {
+            self.live = None;
+        }
         Ok(())
     }
 
     /// What isn't acknowledged is due again. Unchanged if memory was refused.
+    #[tactic(auto, using(crate::proofs::Steps::rest_lost))]
     pub(crate) fn lost(&mut self, lo: u64, hi: u64) -> Result<(), NoMemory>
         requires ordered { lo ≤ hi }
         requires sent { hi ≤ self.old.parts.sent_end }
@@ -154,8 +184,10 @@ impl Offsets {
         ensures some { OnErr result (lo < hi) }
         ensures grows { OnErr result (MissesRange self.old.parts.due (lo - 1) (hi + 1)) }
     {
-        let _written = self.written;
-        add(&mut self.noted, lo, hi)?;
+        let Some(live) = &mut self.live else {
+            return Ok(());
+        };
+        live.lost(lo, hi)?;
         Ok(())
     }
 
@@ -163,9 +195,10 @@ impl Offsets {
         ensures parts { self.new.parts ≡ with_none self.old.parts }
         ensures room { self.new.room ≡ 0 }
     {
-        let count = self.kept.len();
-        self.kept.let_go(count, true);
-        self.noted.drop_below(self.written);
+        let Some(live) = &mut self.live else {
+            return;
+        };
+        live.let_all_go();
     }
 
     pub(crate) fn due_run(&self) -> Option<(u64, u64)>
@@ -173,32 +206,9 @@ impl Offsets {
         ensures none { IfNone result (EndsBefore self.now.parts.due 0) }
         ensures within { IfSome result (λ run. run.1 ≤ self.now.parts.written) }
     {
-        let Some((start, end)) = self.noted.run_from(0) else {
-            return None;
-        };
-        match self.acked.run_from(start) {
-            None => Some((start, end)),
-            Some((next, _)) if start < next => Some((start, next.min(end))),
-            Some((_, after)) => self.due_run_from(after),
+        match &self.live {
+            None => None,
+            Some(live) => live.due_run(),
         }
-    }
-
-    // Apart, since mostly the first run that is noted is due.
-    #[inline(never)]
-    fn due_run_from(&self, from: u64) -> Option<(u64, u64)>
-        requires { (k : ℕ) → k < from → set.contains self.now.parts.due k ≡ false }
-        ensures found { IfSome result (IsRunFrom self.now.parts.due 0) }
-        ensures none { IfNone result (EndsBefore self.now.parts.due 0) }
-        ensures within { IfSome result (λ run. run.1 ≤ self.now.parts.written) }
-    {
-        let mut from = from;
-        while let Some((start, end)) = self.noted.run_from(from) {
-            match self.acked.run_from(start) {
-                None => return Some((start, end)),
-                Some((next, _)) if start < next => return Some((start, next.min(end))),
-                Some((_, after)) => from = after,
-            }
-        }
-        None
     }
 }

@@ -70,20 +70,21 @@ impl Hearing {
         self.catch_up(end)?;
         self.note_said(end)?;
         let wanted = self.wanted;
-        let notes = self.notes()?;
         if wanted != [false; 2] {
+            let notes = self.notes()?;
             for (dir, is_wanted) in [wire::Dir::Bidi, wire::Dir::Uni].into_iter().zip(wanted) {
                 if is_wanted {
                     notes.heard.wants(dir);
                 }
             }
+            self.wanted = [false; 2];
         }
+        let notes = self.notes()?;
         let news = notes.heard.next_news(end);
         notes.has_told = true;
         if let Ok(Some(conn::News::Writable(stream))) = news {
             notes.short[place(StreamId::of(stream))] = NO_STREAM;
         }
-        self.wanted = [false; 2];
         news
     }
 
@@ -169,8 +170,8 @@ impl Hearing {
 
     #[inline]
     fn note_said(&mut self, end: &conn::Endpoint) -> Result<(), NoMemory> {
-        // Mostly nothing waits here.
-        if self.said.is_empty() && self.said.capacity() <= FEW_SAID {
+        // Mostly nothing ever waited here.
+        if self.said.capacity() == 0 {
             return Ok(());
         }
         self.note_all_said(end)

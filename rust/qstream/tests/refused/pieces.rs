@@ -113,10 +113,10 @@ fn a_sending_half_survives_refusals() {
     assert!(each_refused(sending_half_goes_on) >= 7);
 }
 
-/// What an end keeps of each stream that isn't over, or was reset; one that ended plainly stands in a slot of 24 bytes.
+/// What an end keeps of each stream that is over, or never carried a byte; what is live stands in a box.
 #[test]
-fn a_sending_half_takes_232_bytes() {
-    assert!(size_of::<SendHalf>() <= 232);
+fn a_sending_half_takes_64_bytes() {
+    assert!(size_of::<SendHalf>() <= 64);
 }
 
 fn look_at_recv<A: Assembly>(half: &RecvHalf<A>) -> impl Debug + PartialEq + use<A> {

@@ -54,6 +54,9 @@ impl Marks {
     #[inline]
     pub(crate) fn open_to(&mut self, count: usize) -> Result<(), NoMemory> {
         debug_assert!(count <= 1 << 60);
+        if count <= self.len() {
+            return Ok(());
+        }
         // More words than there are marks for sum up the same marks.
         self.words.open_to(count.div_ceil(FLAGS_PER_WORD))?;
         self.marks.open_to(count)

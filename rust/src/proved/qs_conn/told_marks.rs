@@ -52,12 +52,14 @@ impl ToldMarks {
         }
         self.marks.set(index, is_marked);
         let word = index / FLAGS_PER_WORD;
-        let is_full = self.marks.bits().word(word) == u64::MAX;
-        self.full.set(word, is_full);
-        if !is_full {
+        if !is_marked {
+            self.full.set(word, false);
             self.first = self.first.min(word);
-        } else if self.first == word {
-            self.first = word + 1;
+        } else if self.marks.bits().word(word) == u64::MAX {
+            self.full.set(word, true);
+            if self.first == word {
+                self.first = word + 1;
+            }
         }
     }
 

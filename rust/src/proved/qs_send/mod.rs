@@ -10,6 +10,7 @@ mod gone;
 mod half;
 mod halves;
 mod kept;
+mod live_offsets;
 mod lost_pass;
 mod lost_record;
 mod lost_records;

@@ -1,31 +1,27 @@
 // Made from crates/qs_send/src/offsets.rt by rust/erase; not edited by hand.
-//! The written offsets of a half: which are still to be sent or acknowledged, and the bytes of those.
+//! The written offsets of a half. Those that are all acknowledged take no memory.
+use crate::shim::Box;
 
-use crate::proved::qs_send::edits::{add, forget};
-use crate::proved::qs_send::kept::Kept;
-use crate::proved::qs_ranges::{NoMemory, RangeSet};
+use crate::proved::qs_send::live_offsets::LiveOffsets;
+use crate::proved::qs_ranges::NoMemory;
 use crate::shim::alloc::Global;
 
+/// Without a box as a half begins, and again once its last ACK has come: most streams are then over, and stay for the connection's life. In
+/// between the box stays, since a stream that is written to again would take it anew.
 pub(crate) struct Offsets {
+    alloc: Global,
     written: u64,
-    // From the lowest unacknowledged offset on, since a buffer frees only at its front.
-    kept: Kept,
-    acked: RangeSet,
-    // As due; those of them that aren't acknowledged are. So acknowledging need not touch this set, which might want memory.
-    noted: RangeSet,
-    sent_end: u64,
+    // None: each offset is acknowledged, and nothing is kept or due.
+    live: Option<Box<LiveOffsets>>,
 }
 
 impl Offsets {
-    /// None was written. They take no memory: a stream that is opened may never carry a byte.
     #[inline]
     pub(crate) fn new(alloc: Global) -> Self {
         Self {
+            alloc,
             written: 0,
-            kept: Kept::new(alloc),
-            acked: RangeSet::new(alloc),
-            noted: RangeSet::new(alloc),
-            sent_end: 0,
+            live: None,
         }
     }
 
@@ -36,59 +32,82 @@ impl Offsets {
 
     #[inline(always)]
     pub(crate) fn sent_end(&self) -> u64 {
-        self.sent_end
+        match &self.live {
+            None => self.written,
+            Some(live) => live.sent_end(),
+        }
     }
 
     #[inline]
     pub(crate) fn unacked_from(&self) -> u64 {
-        self.acked.first_missing(0)
+        match &self.live {
+            None => self.written,
+            Some(live) => live.unacked_from(),
+        }
     }
 
     #[inline(always)]
     pub(crate) fn kept_len(&self) -> usize {
-        self.kept.len()
+        match &self.live {
+            None => 0,
+            Some(live) => live.kept_len(),
+        }
     }
 
     #[inline]
     pub(crate) fn held(&self) -> usize {
-        self.kept.held()
+        match &self.live {
+            None => 0,
+            Some(live) => live.held(),
+        }
     }
 
     #[inline(always)]
     pub(crate) fn part(&self, from: usize, len: usize) -> (&[u8], &[u8]) {
-        self.kept.part(from, len)
+        match &self.live {
+            None => (&[], &[]),
+            Some(live) => live.part(from, len),
+        }
     }
 
     #[inline]
     pub(crate) fn write(&mut self, bytes: &[u8], most: usize) -> Result<(), NoMemory> {
-        let before = self.kept.len();
-        let end = self.written + bytes.len() as u64;
-        self.kept.append(bytes, most)?;
-        if let Err(fault) = self.noted.insert(self.written, end) {
-            self.kept.truncate(before);
-            return Err(fault);
-        }
-        self.written = end;
+        let Some(live) = &mut self.live else {
+            return self.begin(bytes, most);
+        };
+        live.write(bytes, most)?;
+        self.written += bytes.len() as u64;
         Ok(())
     }
 
-    #[inline]
-    pub(crate) fn sent(&mut self, end: u64) {
-        let before = self.sent_end;
-        self.noted.drop_below(end);
-        self.sent_end = before.max(end);
+    // The first bytes of a half take its box: the one allocation besides the buffer.
+    fn begin(&mut self, bytes: &[u8], most: usize) -> Result<(), NoMemory> {
+        let mut live = Box::new(self.alloc, LiveOffsets::at_rest(self.alloc, self.written))?;
+        live.write(bytes, most)?;
+        self.written += bytes.len() as u64;
+        self.live = Some(live);
+        Ok(())
     }
 
-    /// Once nothing is left and nothing more comes, the buffer's memory goes. Unchanged if memory was refused.
+    #[inline(always)]
+    pub(crate) fn sent(&mut self, end: u64) {
+        let Some(live) = &mut self.live else {
+            return;
+        };
+        live.sent(end);
+    }
+
+    /// With the last ACK the box goes. Unchanged if memory was refused.
     #[inline]
     pub(crate) fn acked(&mut self, lo: u64, hi: u64, is_over: bool) -> Result<(), NoMemory> {
         debug_assert!(lo <= hi);
-        let from = self.written - self.kept.len() as u64;
-        add(&mut self.acked, lo, hi)?;
-        // It needn't stay noted, and each run that goes is one fewer to search.
-        forget(&mut self.noted, lo, hi);
-        let low = self.acked.first_missing(0);
-        self.kept.let_go(low.saturating_sub(from) as usize, is_over);
+        let Some(live) = &mut self.live else {
+            return Ok(());
+        };
+        live.acked(lo, hi, is_over)?;
+        if is_over && live.rests() {
+            self.live = None;
+        }
         Ok(())
     }
 
@@ -96,41 +115,26 @@ impl Offsets {
     #[inline]
     pub(crate) fn lost(&mut self, lo: u64, hi: u64) -> Result<(), NoMemory> {
         debug_assert!(lo <= hi);
-        let _written = self.written;
-        add(&mut self.noted, lo, hi)?;
+        let Some(live) = &mut self.live else {
+            return Ok(());
+        };
+        live.lost(lo, hi)?;
         Ok(())
     }
 
     #[inline]
     pub(crate) fn let_all_go(&mut self) {
-        let count = self.kept.len();
-        self.kept.let_go(count, true);
-        self.noted.drop_below(self.written);
+        let Some(live) = &mut self.live else {
+            return;
+        };
+        live.let_all_go();
     }
 
     #[inline]
     pub(crate) fn due_run(&self) -> Option<(u64, u64)> {
-        let Some((start, end)) = self.noted.run_from(0) else {
-            return None;
-        };
-        match self.acked.run_from(start) {
-            None => Some((start, end)),
-            Some((next, _)) if start < next => Some((start, next.min(end))),
-            Some((_, after)) => self.due_run_from(after),
+        match &self.live {
+            None => None,
+            Some(live) => live.due_run(),
         }
-    }
-
-    // Apart, since mostly the first run that is noted is due.
-    #[inline(never)]
-    fn due_run_from(&self, from: u64) -> Option<(u64, u64)> {
-        let mut from = from;
-        while let Some((start, end)) = self.noted.run_from(from) {
-            match self.acked.run_from(start) {
-                None => return Some((start, end)),
-                Some((next, _)) if start < next => return Some((start, next.min(end))),
-                Some((_, after)) => from = after,
-            }
-        }
-        None
     }
 }

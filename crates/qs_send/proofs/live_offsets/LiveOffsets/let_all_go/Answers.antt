@@ -2,7 +2,7 @@ use Rattle.std.proofs.Common.{◌≡◌, [], refl, ◌∙◌, arith}
 use Rattle.std.proofs.lemmas.List.{drop_all}
 use Rattle.qs_send.proofs.Steps.{offsets_without}
 use Rattle.qs_send.proofs.Runs.{due-none}
-use Rattle.qs_send.proofs.offsets.Offsets.let_all_go.Goals as goal
+use Rattle.qs_send.proofs.live_offsets.LiveOffsets.let_all_go.Goals as goal
 
 none_left : (c : goal.After-drop_below) → c.let_go.new.self.bytes ≡ []
 none_left c = c.let_go.ensures.bytes ∙ drop_all c.len-count.result c.self.inside.kept.bytes (omega (arith, c.len-count.ensures))

@@ -1,7 +1,7 @@
 use Rattle.std.proofs.Common.{arith, refl}
 use Rattle.qs_send.proofs.Steps.{gone_is, low_moves, low_found, offsets_acked}
 use Rattle.qs_send.proofs.Runs.{due-acked}
-use Rattle.qs_send.proofs.offsets.Offsets.acked.Goals as goal
+use Rattle.qs_send.proofs.live_offsets.LiveOffsets.acked.Goals as goal
 
 pub let_go-requires : goal.let_go-requires
 let_go-requires c =

@@ -1,6 +1,6 @@
 use Rattle.std.proofs.Common.{rules}
 use Rattle.qs_send.proofs.Runs.{none_due_all, none_due_past, run_alone, run_until}
-use Rattle.qs_send.proofs.offsets.Offsets.due_run_from.Goals as goal
+use Rattle.qs_send.proofs.live_offsets.LiveOffsets.due_run_from.Goals as goal
 
 pub returns-in-None-clause-found : goal.returns-in-None-clause-found
 returns-in-None-clause-found c = rw (← c.self.view_is) (search (rules, run_alone, c.in-Some.ensures.found, c.in-None.ensures.none, c.loop-start.invariant))

@@ -2,7 +2,7 @@ use Rattle.std.proofs.Common.{refl, rules}
 use Rattle.qs_ranges.proofs.Edits.{on_err}
 use Rattle.qs_send.proofs.Steps.{offsets_lost}
 use Rattle.qs_send.proofs.Runs.{due-lost, due_misses}
-use Rattle.qs_send.proofs.offsets.Offsets.lost.Goals as goal
+use Rattle.qs_send.proofs.live_offsets.LiveOffsets.lost.Goals as goal
 
 pub invariant_of-self-2 : goal.invariant_of-self-2
 invariant_of-self-2 c =

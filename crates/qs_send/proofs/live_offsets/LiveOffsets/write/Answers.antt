@@ -2,7 +2,7 @@ use Rattle.std.proofs.Common.{refl}
 use Rattle.qs_ranges.proofs.Sets.{AllBelow-more}
 use Rattle.qs_send.proofs.Steps.{offsets_written}
 use Rattle.qs_send.proofs.Runs.{due-write}
-use Rattle.qs_send.proofs.offsets.Offsets.write.Goals as goal
+use Rattle.qs_send.proofs.live_offsets.LiveOffsets.write.Goals as goal
 
 pub invariant_of-self-2 : goal.invariant_of-self-2
 invariant_of-self-2 c =

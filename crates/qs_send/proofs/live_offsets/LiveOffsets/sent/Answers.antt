@@ -1,7 +1,7 @@
 use Rattle.std.proofs.Common.{refl, arith}
 use Rattle.qs_send.proofs.Steps.{offsets_sent}
 use Rattle.qs_send.proofs.Runs.{due-sent}
-use Rattle.qs_send.proofs.offsets.Offsets.sent.Goals as goal
+use Rattle.qs_send.proofs.live_offsets.LiveOffsets.sent.Goals as goal
 
 pub invariant_of-self : goal.invariant_of-self
 invariant_of-self c =
