@@ -3,9 +3,9 @@ use Rattle.qs_conn.specs.declared.recv_marks.RecvTask.TheVariants as tasks
 use Rattle.qs_send.specs.declared.parts.SendFault.TheVariants as sends
 use Rattle.std.specs.FinSet as set
 use Rattle.qs_conn.specs.declared.send_marks.Task.TheVariants as send_tasks
-use Rattle.std.proofs.Common.{◌≡◌, ℕ, ◌+◌, ◌-◌, ◌*◌, ◌/◌, ◌%◌, ◌<◌, ◌≤◌, ◌^◌, ◌==◌, ◌&&◌, not, nat_le, Bool, true, false, List, length, Option, None, Some, refl, sym, ap, ◌∙◌, subst, arith, zero, suc, ◌⊎◌, is_some, inl, inr, [], take, Result, Ok, Err, unwrap_or, if◌then◌else◌, option_map, ◌||◌, min, cond, nat_lt, IsTrue, get_or}
-use Rattle.std.specs.Option.{IfSome, IfNone}
-use Rattle.std.proofs.lemmas.Bool.{true≢false, both_ways, eq-eqb, ne_eqb, and_parts, not-true, cases_lt, and_right}
+use Rattle.std.proofs.Common.{◌≡◌, ℕ, ◌+◌, ◌-◌, ◌/◌, ◌%◌, ◌<◌, ◌≤◌, ◌^◌, ◌==◌, ◌&&◌, not, nat_le, Bool, true, false, List, length, Option, None, Some, refl, sym, ap, ◌∙◌, subst, arith, zero, suc, ◌⊎◌, is_some, inl, inr, [], take, Result, Ok, Err, unwrap_or, if◌then◌else◌, option_map, ◌||◌, min, cond, nat_lt, IsTrue}
+use Rattle.std.specs.Option.{IfSome}
+use Rattle.std.proofs.lemmas.Bool.{true≢false, both_ways, eq-eqb, ne_eqb, and_parts, cases_lt}
 use Rattle.std.proofs.lemmas.Bool.Decides.{nat_tests}
 use Rattle.qs_recv.specs.Lane.{RecvLane, read_answer, bytes_of, bytes_read, after_answer, after_read, stop, stop_and_discard}
 use Rattle.qs_send.specs.Lane.{SendLane, refusal, write_lane, Sending, sent_lane, after_sent, accepted, free_room}
@@ -13,11 +13,11 @@ use Rattle.qs_machine.specs.Tables.{Tables, type_of, lookup, table, index_of, up
 use Rattle.qs_machine.specs.Ends.{End, role_bit, is_uni, is_own, send_lane, recv_lane, on_send, on_recv, first_window_by}
 use Rattle.qs_machine.specs.News.{IsHeld, IsEnded, IsLeast, IsReadable, HasForPacket, IsSendable, IsWritable}
 use Rattle.qs_machine.specs.Heard.{is_told, Hearing, heard_opened, IsNews, IsNextOpened, IsFirstNews, ComesBefore, kind_of, subject_of, place_of, is_held_back, WasResetAcked, MayOpen, wants, TakesMemory, FirstTakesMemory}
-use Rattle.qs_conn.specs.Marks.{is_marked, AreMarksFor, both, untold, AreEndsMarked, IsBefore, IsNextMark, IsUntoldOf, least_of, IsUntold}
+use Rattle.qs_conn.specs.Marks.{is_marked, both, untold, AreEndsMarked, IsBefore, IsMarkedOf, IsUntoldOf, least_of, IsUntold}
 use Rattle.qs_conn.specs.Ended.{recv_over, send_over, IsToldOfEnd}
 use Rattle.qs_conn.specs.RecvTasks.{HasOne, HasNone, has_one}
 use Rattle.qs_conn.specs.Sending.{HasSent, IsDueOf, MayWrite, offered, let_go, front_of, credit_room, TakesAlone}
-use Rattle.qs_conn.proofs.Marked.{least_as, both_self, told_of, next_self, waits, none_before, none_next, least_given, least_two, least_by, row_none, row_some, at_mark, mark_at, clear_next}
+use Rattle.qs_conn.proofs.Marked.{least_as, left_at, both_self, told_of, waits, none_before, none_next, least_given, least_two, least_by}
 use Rattle.qs_conn.proofs.Boths.{both_is, untold_is}
 use Rattle.std.proofs.lemmas.Option.{none-some, same_Some}
 use Rattle.qs_wire.specs.Streams.{dir_of}
@@ -28,7 +28,7 @@ use Rattle.qs_machine.specs.Credit.{send_ended, settle, credit_for, window_left}
 use Rattle.qs_machine.specs.Asking.{room, stopped_with, IsPeeked, room_of, stop_of}
 use Rattle.qs_conn.specs.ByDir.{IsFirstDir}
 use Rattle.qs_conn.specs.Hearing.{IsFirstFrom, next_of_peer}
-use Rattle.std.specs.Prelude.{is_none}
+use Rattle.std.specs.Prelude.{is_none, option_map}
 use Rattle.qs_recv.specs.Peek.{IsPeek}
 use Rattle.qs_recv.specs.declared.half.Peek.{Peek}
 use Rattle.qs_recv.specs.declared.half.Read.{Read}
@@ -39,7 +39,7 @@ use Rattle.qs_calls.specs.declared.uses.UseFault.{UseFault}
 use Rattle.qs_calls.specs.declared.uses.UseFault.TheVariants.{Closed, NoMemory}
 use Rattle.qs_machine.specs.Verdicts.{or_new}
 use Rattle.qs_machine.specs.Owner.{Certain, Uncertain, first_refusal, refuse_if, no_half, half_refusal, use_fault, send_refusal, recv_refusal, is_read_no_more, AsksToKeep, WriteStep, StopStep, StopAndDiscardStep, ReadStep, ConsumeStep, is_end, accepted_by, at_most}
-use Rattle.qs_machine.specs.Sums.{or_none, tables_of}
+use Rattle.qs_machine.specs.Sums.{or_none}
 use Rattle.qs_machine.proofs.TablesAfter.{updated_back}
 use Rattle.qs_machine.proofs.Again.{changed}
 use Rattle.qs_conn.specs.declared.recv_marks.RecvTask.{RecvTask}
@@ -53,7 +53,7 @@ use Rattle.qs_machine.specs.Due.{ByteGoes, EndGoes, StreamGoes}
 use Rattle.qs_machine.specs.Outgoing.{Outgoing, IsTied, HasSending, WantsMore, chunk_put, lanes_of, sent_sum, with_outgoing, IsAckedReset}
 use Rattle.qs_conn.specs.Filling.{end_by, AnyWantsMore}
 use Rattle.qs_conn.specs.declared.send_marks.Task.{Task}
-use Rattle.qs_conn.specs.Tasks.{HasTask, IsOpen, IsQuiet, IsQuietAt, IsDoneAfter, has, is_due_below, may_end, is_funded, sought_of, IsSoughtAt, IsSought, IsSoughtOf}
+use Rattle.qs_conn.specs.Tasks.{HasTask, IsOpen, IsQuiet, IsQuietAt, IsDoneAfter, has, is_due_below, may_end, is_funded, IsSought}
 use Rattle.qs_conn.proofs.Outboxes.{is_due, is_end_due, due_is, end_due_is, none_is}
 use Rattle.qs_conn.proofs.Tasks.{no_byte, no_fin, no_fin_again, none_again, below_due, due_below, end_parts, parts_end, unsent_below}
 use Rattle.qs_machine.proofs.LaneTables.{lookup_lanes, lane_there}
@@ -66,8 +66,6 @@ use Rattle.qs_send.specs.Writable.{is_writable}
 use Rattle.qs_ranges.specs.Numbers.{MAX_VARINT}
 use Rattle.qs_wire.specs.declared.stream_id.Dir.TheVariants.{Bidi, Uni}
 use Rattle.qs_recv.specs.News.{is_readable}
-use Rattle.qs_machine.proofs.TableEdits.{lookup_is}
-use Rattle.qs_conn.specs.Marks.{IsClear as HasNoMarks}
 use Rattle.qs_conn.specs.declared.send_marks.Search.{Search}
 
 recv_there : (t : Tables RecvLane) (n : ℕ) (o : Option RecvLane) → lookup t n ≡ o → recv_over o ≡ true → IsHeld (HasOne tasks.Ended) t n
@@ -97,66 +95,67 @@ module _ (v e : End) (same : v ≡ e) (n : ℕ) where
 
 -- The marks of the streams of a type
 
-module _ (v e : End) (same : v ≡ e) (k : ℕ) (recvs sends : List Bool) (receiving : AreEndsMarked (HasOne tasks.Ended) v.recvs k recvs) (sending : AreEndsMarked HasSent v.sends k sends) (n : ℕ) (kind : type_of n ≡ k) where
-  back : IsEnded e n → IsEnded v n
-  back over = subst (λ x. IsEnded x n) (sym same) over
+recv_same : (o : Option RecvLane) → has_one tasks.Ended o ≡ recv_over o
+recv_same None = refl
+recv_same (Some l) = refl
 
-  own_is : (b : Bool) → (k % 2 == role_bit v.role) ≡ b → is_own v n ≡ b
-  own_is b is = ap (λ j. j % 2 == role_bit v.role) kind ∙ is
+both_true : (a b : Bool) → a ≡ true → b ≡ true → (a && b) ≡ true
+both_true a b p q = grind (arith, nat_tests)
 
-  pub bidi_marks : k < 2 → is_marked (both recvs sends) (n / 4) ≡ false → IsEnded e n → ⊥
-  bidi_marks lt none over = go (is_marked recvs (n / 4)) refl (sym (both_is recvs sends (n / 4)) ∙ none)
+module _ (v e : End) (same : v ≡ e) (k : ℕ) (recvs sends : List Bool) (receiving : (n : ℕ) → type_of n ≡ k → is_marked recvs (n / 4) ≡ has_one tasks.Ended (lookup v.recvs n)) (sending : (n : ℕ) → type_of n ≡ k → is_marked sends (n / 4) ≡ send_over (lookup v.sends n)) where
+  module _ (n : ℕ) (kind : type_of n ≡ k) where
+    back : IsEnded e n → IsEnded v n
+    back over = subst (λ x. IsEnded x n) (sym same) over
+
+    own_is : (b : Bool) → (k % 2 == role_bit v.role) ≡ b → is_own v n ≡ b
+    own_is b is = ap (λ j. j % 2 == role_bit v.role) kind ∙ is
+
+    own_now : (b : Bool) → (k % 2 == role_bit v.role) ≡ b → is_own e n ≡ b
+    own_now b is = ap (λ (x : End). is_own x n) (sym same) ∙ own_is b is
+
+    received : is_marked recvs (n / 4) ≡ true → recv_over (lookup v.recvs n) ≡ true
+    received is = sym (receiving n kind ∙ recv_same (lookup v.recvs n)) ∙ is
+
+    sent : is_marked sends (n / 4) ≡ true → send_over (lookup v.sends n) ≡ true
+    sent is = sym (sending n kind) ∙ is
+
+    recv_mark : IsHeld (HasOne tasks.Ended) v.recvs n → is_marked recvs (n / 4) ≡ true
+    recv_mark (l, at, is) = receiving n kind ∙ ap (has_one tasks.Ended) at ∙ is
+
+    send_mark : IsHeld HasSent v.sends n → is_marked sends (n / 4) ≡ true
+    send_mark (l, at, is) = sending n kind ∙ ap send_over at ∙ is
+
+  pub bidi_marks : k < 2 → AreEndsMarked e k (both recvs sends)
+  bidi_marks lt n kind = (
+    λ is. (let parts = and_parts (is_marked recvs (n / 4)) (is_marked sends (n / 4)) (sym (both_is recvs sends (n / 4)) ∙ is) in bidi_over v e same n uni (received n kind parts.0) (sent n kind parts.1)),
+    λ over. both_is recvs sends (n / 4) ∙ both_true (is_marked recvs (n / 4)) (is_marked sends (n / 4)) (recv_mark n kind ((back n kind over).receiving (ap (λ b. b && is_own v n) uni))) (send_mark n kind ((back n kind over).sending (ap (λ b. b && not (is_own v n)) uni))),
+  )
     where
       uni : is_uni n ≡ false
       uni = ap (nat_le 2) kind ∙ grind (arith, nat_tests, lt)
 
-      go : (b : Bool) → is_marked recvs (n / 4) ≡ b → (is_marked recvs (n / 4) && is_marked sends (n / 4)) ≡ false → ⊥
-      go true is h = sending n kind (ap (λ b. b && is_marked sends (n / 4)) (sym is) ∙ h) ((back over).sending (ap (λ b. b && not (is_own v n)) uni))
-      go false is h = receiving n kind is ((back over).receiving (ap (λ b. b && is_own v n) uni))
-
   module _ (ge : 2 ≤ k) where
-    uni : is_uni n ≡ true
-    uni = ap (nat_le 2) kind ∙ grind (arith, nat_tests, ge)
+    uni : (n : ℕ) → type_of n ≡ k → is_uni n ≡ true
+    uni n kind = ap (nat_le 2) kind ∙ grind (arith, nat_tests, ge)
 
-    pub own_marks : k % 2 ≡ role_bit v.role → is_marked (both sends sends) (n / 4) ≡ false → IsEnded e n → ⊥
-    own_marks bit none over =
-        sending n kind (ap (λ xs. is_marked xs (n / 4)) (sym (both_self sends)) ∙ none)
-        ((back over).sending (ap (λ b. b && not (is_own v n)) uni ∙ ap not (own_is true (eq-eqb (k % 2) (role_bit v.role) bit))))
+    pub own_marks : k % 2 ≡ role_bit v.role → AreEndsMarked e k (both sends sends)
+    own_marks bit n kind =
+        let twice = ap (λ xs. is_marked xs (n / 4)) (both_self sends) in
+        let own = eq-eqb (k % 2) (role_bit v.role) bit in
+        (λ is. own_over v e same n (uni n kind) (own_now n kind true own) (sent n kind (sym twice ∙ is)), λ over. twice ∙ send_mark n kind ((back n kind over).sending (ap (λ b. b && not (is_own v n)) (uni n kind) ∙ ap not (own_is n kind true own))))
 
-    pub peers_marks : (k % 2 ≡ role_bit v.role → ⊥) → is_marked (both recvs recvs) (n / 4) ≡ false → IsEnded e n → ⊥
-    peers_marks bit none over =
-        receiving n kind (ap (λ xs. is_marked xs (n / 4)) (sym (both_self recvs)) ∙ none)
-        ((back over).receiving (ap (λ b. b && is_own v n) uni ∙ own_is false (ne_eqb (k % 2) (role_bit v.role) bit)))
+    pub peers_marks : (k % 2 ≡ role_bit v.role → ⊥) → AreEndsMarked e k (both recvs recvs)
+    peers_marks bit n kind =
+        let twice = ap (λ xs. is_marked xs (n / 4)) (both_self recvs) in
+        let own = ne_eqb (k % 2) (role_bit v.role) bit in
+        (λ is. peers_over v e same n (uni n kind) (own_now n kind false own) (received n kind (sym twice ∙ is)), λ over. twice ∙ recv_mark n kind ((back n kind over).receiving (ap (λ b. b && is_own v n) (uni n kind) ∙ own_is n kind false own)))
 
--- A search
-
-pub before_numbered : (m n : ℕ) (r : Option ℕ) → m < 2 ^ 62 → IfSome r (λ id. (id ≡ m) × (m < 2 ^ 62)) → IfNone r (2 ^ 62 ≤ m) → IsBefore n r → n < m
-before_numbered m n r few some none before = grind (arith, nat_tests)
-
-module _ (P : ℕ → Type 0) (told : Tables Bool) (k from start : ℕ) (a b : List Bool) (small : k < 4) (at : start ≡ (from + 3 - k) / 4) (none : (n : ℕ) → type_of n ≡ k → is_marked (both a b) (n / 4) ≡ false → P n → ⊥) where
-  unmarked_none : (n : ℕ) → is_marked (untold (both a b) (table told k)) (n / 4) ≡ false → IsUntoldOf P told k n → ⊥
-  unmarked_none n is h = grind (arith, nat_tests, both_ways, untold_is, not, told_of)
-
-  pub none_marked : IsNextMark (untold (both a b) (table told k)) start None → (n : ℕ) → from ≤ n → IsUntoldOf P told k n → ⊥
-  none_marked h n ge p = unmarked_none n (h.unmarked (n / 4) (let kind = p.0 in omega (arith, at, ge, kind, small)) tt) p
-
-  module _ (index : ℕ) (h : IsNextMark (untold (both a b) (table told k)) start (Some index)) where
-    pub none_between : (n : ℕ) → from ≤ n → n < index * 4 + k → IsUntoldOf P told k n → ⊥
-    none_between n ge lt p = let kind = p.0 in unmarked_none n (h.unmarked (n / 4) (omega (arith, at, ge, kind, small)) (omega (arith, lt, kind, small))) p
-
-    pub found_from : from ≤ index * 4 + k
-    found_from = omega (arith, (h.found index refl).0, at, small)
-
-    free : is_marked (table told k) index ≡ false
-    free = not-true (is_marked (table told k) index) (and_parts (is_marked (both a b) index) (not (is_marked (table told k) index)) (sym (untold_is (both a b) (table told k) index) ∙ (h.found index refl).1)).1
-
-    -- the number of the index
-    pub numbered : (r : Option ℕ) → IfSome r (λ n. (n ≡ index * 4 + k) × (index * 4 + k < 2 ^ 62)) → IfSome r (λ n. (from ≤ n) × (n < 2 ^ 62) × (type_of n ≡ k) × (is_told told n ≡ false))
-    numbered None is = is
-    numbered (Some n) is =
-        let kind : type_of n ≡ k = omega (arith, is.0, small) in
-        let index_is : n / 4 ≡ index = omega (arith, is.0, small) in
-        (omega (arith, found_from, is.0), omega (arith, is.0, is.1), kind, told_of told n k kind ∙ ap (is_marked (table told k)) index_is ∙ free)
+-- the least one of a type that is over and wasn't told of
+pub ended_next : (e : End) (told : Tables Bool) (k from : ℕ) (a b : List Bool) → AreEndsMarked e k (both a b) → (r : Option ℕ) → IsLeast (IsMarkedOf (untold (both a b) (table told k)) k) from r → IsLeast (IsUntoldOf (IsEnded e) told k) from r
+ended_next e told k from a b are r =
+    least_as (IsMarkedOf (untold (both a b) (table told k)) k) (IsUntoldOf (IsEnded e) told k) from r
+    (λ n (kind, is). (let left = left_at (both a b) (table told k) (n / 4) is in (kind, ((are n kind).0 left.0, told_of told n k kind ∙ left.1))))
+    (λ n (kind, (over, free)). (kind, untold_is (both a b) (table told k) (n / 4) ∙ ap (λ x. x && not (is_marked (table told k) (n / 4))) ((are n kind).1 over) ∙ ap not (sym (told_of told n k kind) ∙ free)))
 
 -- ---- The first piece of news, by its kind: none of an earlier kind is there, and its stream is the least of its own.
 
@@ -696,46 +695,6 @@ module _ (v old : End) (same : v ≡ old) (short : Tables Bool) where
   takes_untold none = grind (arith, nat_tests)
 
 -- ---- Searches for the least stream whose sending half has something, of those that an owner was told of or of those that it wasn't.
-
--- Marks that are sought
-
--- where none is told, none that is told is marked
-pub none_told : (ms ts : List Bool) (from : ℕ) → HasNoMarks ts → IsNextMark (both ms ts) from None
-none_told ms ts from none = clear_next (both ms ts) from (λ i. both_is ms ts i ∙ and_right (is_marked ms i) (is_marked ts i) (none i))
-
--- the answer of the search that was made is that of the one that was asked for
-pub asked_untold : (told : Bool) (ms ts : List Bool) (from : ℕ) (r : Option ℕ) → not told ≡ true → IsNextMark (untold (both ms ms) ts) from r → IsNextMark (if told then both ms ts else untold ms ts) from r
-asked_untold told ms ts from r is h = grind (arith, nat_tests, next_self)
-
-pub asked_told : (told : Bool) (ms ts : List Bool) (from : ℕ) (r : Option ℕ) → not told ≡ false → IsNextMark (both ms ts) from r → IsNextMark (if told then both ms ts else untold ms ts) from r
-asked_told told ms ts from r is h = grind (arith, nat_tests)
-
-pub sought_mark : (told : Bool) (ms ts : List Bool) (i : ℕ) → is_marked (if told then both ms ts else untold ms ts) i ≡ true → (is_marked ms i ≡ true) × (is_marked ts i ≡ told)
-sought_mark told ms ts i is = grind (arith, nat_tests, both_is, untold_is)
-
-not_marked : (told : Bool) (ms ts : List Bool) (i : ℕ) → is_marked (if told then both ms ts else untold ms ts) i ≡ false → is_marked ts i ≡ told → is_marked ms i ≡ false
-not_marked told ms ts i none is = grind (arith, nat_tests, both_is, untold_is)
-
--- a search over the marks is one over the halves of a type
-pub sought_least : (q : Search) (xs : List Sending) (ms ts : List Bool) → AreMarksFor (has q.task) xs ms → (from : ℕ) (r : Option ℕ) → IsNextMark (sought_of q ms ts) from r → IsLeast (IsSoughtAt q xs ts) from r
-sought_least q xs ms ts is from r next =
-    least_by (IsSoughtAt q xs ts) from r (λ n found. (let m = sought_mark q.is_told ms ts n (next.found n found).1 in ((next.found n found).0, (at_mark (has q.task) xs ms is n m.0, m.1))))
-    (λ i ge before ((x, at, some), told). both_ways (has q.task x) (sym (mark_at (has q.task) xs ms is i x at) ∙ not_marked q.is_told ms ts i (next.unmarked i ge before) told) some)
-
--- Streams of a type
-
-module _ (q : Search) (ls : List (List Sending)) (told : Tables Bool) (k from first : ℕ) (d : List Sending) (len : length ls ≡ 4) (small : k < 4) (begin : first ≡ (from + 3 - k) / 4) where
-  part_of : (n : ℕ) → type_of n ≡ k → IsSought q (tables_of ls) told n → IsSoughtAt q (get_or ls k d) (table told k) (n / 4)
-  part_of n kind ((x, at, r), is) = ((x, sym (lookup_is ls n k (n / 4) d len (sym kind) refl) ∙ at, r), sym (told_of told n k kind) ∙ is)
-
-  stream_of : (i n : ℕ) → type_of n ≡ k → i ≡ n / 4 → IsSoughtAt q (get_or ls k d) (table told k) i → IsSought q (tables_of ls) told n
-  stream_of i n kind index ((x, at, r), is) = ((x, lookup_is ls n k i d len (sym kind) index ∙ at, r), told_of told n k kind ∙ ap (is_marked (table told k)) (sym index) ∙ is)
-
-  pub sought_none : IsLeast (IsSoughtAt q (get_or ls k d) (table told k)) first None → IsLeast (IsSoughtOf q (tables_of ls) told k) from None
-  sought_none = row_none (IsSought q (tables_of ls) told) (IsSoughtAt q (get_or ls k d) (table told k)) k from first small begin part_of
-
-  pub sought_some : (i : ℕ) → IsLeast (IsSoughtAt q (get_or ls k d) (table told k)) first (Some i) → IsLeast (IsSoughtOf q (tables_of ls) told k) from (Some (i * 4 + k))
-  sought_some i = row_some (IsSought q (tables_of ls) told) (IsSoughtAt q (get_or ls k d) (table told k)) k from first small begin part_of i (stream_of i)
 
 -- an answer about halves is one about their lanes, where these tell of the kind
 pub lanes_sought : (q : Search) (told : Tables Bool) (v o : Outgoing) (t : Tables Sending) (from : ℕ) (r : Option ℕ) → v ≡ o → lanes_of t ≡ v.sends → IsLeast (IsSought q t told) from r

@@ -2,7 +2,7 @@
 use Rattle.std.specs.FinSet as set
 use Rattle.qs_conn.specs.declared.recv_marks.RecvTask.TheVariants as tasks
 use Rattle.std.proofs.lemmas.Bool.Decides.{nat_tests}
-use Rattle.std.proofs.Common.{◌≡◌, ℕ, zero, suc, ◌+◌, ◌-◌, ◌*◌, ◌/◌, ◌%◌, min, ◌<◌, ◌≤◌, ◌^◌, Bool, true, false, List, [], ◌∷◌, ◌++◌, map, length, get_or, replicate, Option, None, Some, slice_get, refl, sym, ap, ◌∙◌, subst, arith, inl, inr, set, Result, Ok, Err, ◌⊎◌, unwrap_or, not, ◌≢◌, ◌==◌, take, max, w64, ◌&&◌, ◌||◌, is_some}
+use Rattle.std.proofs.Common.{if◌then◌else◌, ◌≡◌, ℕ, zero, suc, ◌+◌, ◌-◌, ◌*◌, ◌/◌, ◌%◌, min, ◌<◌, ◌≤◌, ◌^◌, Bool, true, false, List, [], ◌∷◌, ◌++◌, map, length, get_or, replicate, Option, None, Some, slice_get, refl, sym, ap, ◌∙◌, subst, arith, inl, inr, set, Result, Ok, Err, ◌⊎◌, unwrap_or, not, ◌≢◌, ◌==◌, take, max, w64, ◌&&◌, ◌||◌, is_some}
 use Rattle.std.specs.List.{range_with_len}
 use Rattle.std.specs.Option.{IfSome, option_eq}
 use Rattle.std.proofs.lemmas.Bool.{cases_lt, both_ways, cases_eq, and_parts, not-true, true≢false, eqb-false, eq-eqb}
@@ -10,7 +10,7 @@ use Rattle.std.proofs.lemmas.List.{length-append, length-replicate, get_or_past,
 use Rattle.std.proofs.lemmas.Option.{none-some, same_Some, get_or_from_slice_get, unwrap_or-slice_get, slice_get_within}
 use Rattle.std.specs.Result.{OnOk, OnErr}
 use Rattle.qs_conn.specs.Marks.{IsClear as IsUntoldClear}
-use Rattle.qs_conn.specs.Marks.{is_marked, IsUnmarked, AreClear, places, last_beside, AreMarksFor, HasRoom, IsClearedFrom, IsWider, IsBefore as IsMarkBefore, IsNextMark, IsMarkedOf, least_of, IsAt, IsHeldOf, IsMarkedBeside, both, untold, IsUntold, HasNoMark, HasAllMarks, AreSummed, AreMarkedBelow, AreUnmarkedFrom, AreFull, AreEndsMarked, IsUntoldOf}
+use Rattle.qs_conn.specs.Marks.{is_marked, IsUnmarked, AreClear, places, last_beside, one_has, TellWhich, AreMarksFor, HasRoom, IsClearedFrom, IsWider, IsBefore as IsMarkBefore, IsNextMark, IsMarkedOf, least_of, IsHeldOf, IsMarkedBeside, both, untold, IsUntold, HasNoMark, HasAllMarks, AreSummed, AreMarkedBelow, AreUnmarkedFrom, AreFull}
 use Rattle.qs_machine.specs.Sums.{changed, tables_of}
 use Rattle.qs_machine.specs.Tables.{Tables, lookup, widened, type_of, table, no_streams}
 use Rattle.qs_machine.proofs.TableEdits.{lookup_is, with_is, table_is, opened_updated, opened_is}
@@ -18,7 +18,7 @@ use Rattle.qs_machine.proofs.TableLaws.{lookup_open}
 use Rattle.std.specs.Prelude.{option_map}
 use Rattle.qs_machine.specs.News.{IsLeast, IsHeld}
 use Rattle.qs_machine.specs.Heard.{is_told, IsToldBeside}
-use Rattle.qs_conn.proofs.Boths.{both_len, untold_len, untold_is, not_both, left_below, told_below as both_told_below}
+use Rattle.qs_conn.proofs.Boths.{both_is, both_len, untold_len, untold_is, not_both, left_below, told_below as both_told_below}
 use Rattle.qs_machine.proofs.Ties.{nowhere}
 use Rattle.std.proofs.lemmas.Grind.{common_steps, get_or-set_at}
 use Rattle.std.specs.Int.{bit_at, bit_not}
@@ -33,7 +33,7 @@ use Rattle.qs_recv.specs.News.{tells_something}
 use Rattle.qs_recv.specs.declared.credit.Share.{Share}
 use Rattle.qs_machine.specs.Credit.{recv_ended}
 use Rattle.qs_machine.proofs.EveryCall.{not_chosen}
-use Rattle.qs_conn.specs.RecvTasks.{has, has_one, HasNone, HasOne, AreNoted}
+use Rattle.qs_conn.specs.RecvTasks.{has, HasNone, AreNoted}
 use Rattle.qs_conn.specs.declared.recv_marks.RecvTask.{RecvTask}
 use Rattle.qs_conn.specs.declared.recv_marks.RecvMarks.{RecvMarks}
 
@@ -143,23 +143,6 @@ least_as P Q from r there back h = record { found = λ n is. (let f = h.found n 
 pub none_next : (P : ℕ → Type 0) (from m : ℕ) → ((n : ℕ) → n < from → P n → ⊥) → ((n : ℕ) → from ≤ n → n < m → P n → ⊥) → (P m → ⊥) → (n : ℕ) → n < m + 1 → P n → ⊥
 none_next P from m below between here n lt p = grind (arith, here)
 
--- A search
-
--- up to a place none has the property
-pub record IsClear (P : ℕ → Type 0) (from next : ℕ) : Type 0 where
-  pub after : from ≤ next
-  pub none : (i : ℕ) → from ≤ i → i < next → P i → ⊥
-
-pub clear_at : (P : ℕ → Type 0) (from : ℕ) → IsClear P from from
-clear_at P from = record { after = omega arith; none = λ i ge lt p. omega (arith, ge, lt) }
-
-module _ (P : ℕ → Type 0) (from index : ℕ) (c : IsClear P from index) where
-  pub clear_over : (P index → ⊥) → IsClear P from (index + 1)
-  clear_over without = grind (arith, nat_tests)
-
-  pub least_here : P index → IsLeast P from (Some index)
-  least_here p = least_by P from (Some index) (λ n is. (let same : index ≡ n = same_Some index n is in (omega (arith, c.after, same), subst P same p))) (λ i ge before q. c.none i ge before q)
-
 -- Answers of several searches
 
 -- the lesser of two answers, where each number with the property is in one of two parts
@@ -202,16 +185,6 @@ next_of P ms k from first small begin there back r next = go r (least_by Row fir
 
 pub next_stream : (ms : List Bool) (k from first : ℕ) → k < 4 → first ≡ (from + 3 - k) / 4 → (r : Option ℕ) → IsNextMark ms first r → IsLeast (IsMarkedOf ms k) from (option_map (λ i. i * 4 + k) r)
 next_stream ms k from first small begin = next_of (λ n. is_marked ms (n / 4) ≡ true) ms k from first small begin (λ n kind is. is) (λ n kind is. is)
-
-part_of : {X : Type 0} (R : X → Type 0) (ls : List (List X)) (k : ℕ) (d : List X) → length ls ≡ 4 → (n : ℕ) → type_of n ≡ k → IsHeld R (tables_of ls) n → IsAt R (get_or ls k d) (n / 4)
-part_of R ls k d len n kind (x, at, r) = (x, sym (lookup_is ls n k (n / 4) d len (sym kind) refl) ∙ at, r)
-
--- of all parts of one type, the least index from one on
-pub kind_none : {X : Type 0} (R : X → Type 0) (ls : List (List X)) (k from first : ℕ) (d : List X) → length ls ≡ 4 → k < 4 → first ≡ (from + 3 - k) / 4 → IsLeast (IsAt R (get_or ls k d)) first None → IsLeast (IsHeldOf R (tables_of ls) k) from None
-kind_none R ls k from first d len small begin = row_none (IsHeld R (tables_of ls)) (IsAt R (get_or ls k d)) k from first small begin (part_of R ls k d len)
-
-pub kind_some : {X : Type 0} (R : X → Type 0) (ls : List (List X)) (k from first i : ℕ) (d : List X) → length ls ≡ 4 → k < 4 → first ≡ (from + 3 - k) / 4 → IsLeast (IsAt R (get_or ls k d)) first (Some i) → IsLeast (IsHeldOf R (tables_of ls) k) from (Some (i * 4 + k))
-kind_some R ls k from first i d len small begin = row_some (IsHeld R (tables_of ls)) (IsAt R (get_or ls k d)) k from first small begin (part_of R ls k d len) i (λ n kind index (x, at, r). (x, lookup_is ls n k i d len (sym kind) index ∙ at, r))
 
 -- of all four types
 pub kinds_four : (P : ℕ → Type 0) (from : ℕ) (a b c d : Option ℕ) → IsLeast (OfKind P 0) from a → IsLeast (OfKind P 1) from b → IsLeast (OfKind P 2) from c → IsLeast (OfKind P 3) from d → IsLeast P from (least_of (least_of a b) (least_of c d))
@@ -262,14 +235,6 @@ both_self (false ∷ ms) = ap (λ xs. false ∷ xs) (both_self ms)
 
 pub next_self : (ms ts : List Bool) (from : ℕ) (r : Option ℕ) → IsNextMark (untold (both ms ms) ts) from r → IsNextMark (untold ms ts) from r
 next_self ms ts from r h = subst (λ xs. IsNextMark (untold xs ts) from r) (both_self ms) h
-
--- where none between has the property, nor any from there on
-module _ (P : ℕ → Type 0) (from next : ℕ) (c : IsClear P from next) where
-  pub clear_on : (n : ℕ) → next ≤ n → ((i : ℕ) → next ≤ i → i < n → P i → ⊥) → IsClear P from n
-  clear_on n le between = grind (arith, nat_tests)
-
-  pub none_on : ((i : ℕ) → next ≤ i → P i → ⊥) → IsLeast P from None
-  none_on none = least_by P from None (λ n is. absurd (none-some n is)) (λ i ge before p. elim (cases_lt i next) [ inl lt ↦ c.none i ge lt p | inr past ↦ none i past p ])
 
 -- a mark is left only where there was one, and none was told
 pub left_at : (ms ts : List Bool) (i : ℕ) → is_marked (untold ms ts) i ≡ true → (is_marked ms i ≡ true) × (is_marked ts i ≡ false)
@@ -474,16 +439,6 @@ module _ (marks : List Bool) (from place bit : ℕ) (clear : IsClearTo marks fro
 
 -- ---- Marks that are tests of the parts beside which they stand.
 
--- what is marked there passes the test
-marked_at : {X : Type 0} (p : X → Bool) (xs : List X) (i : ℕ) → is_marked (map p xs) i ≡ true → IsAt (λ x. p x ≡ true) xs i
-marked_at p [] i is = absurd (true≢false (sym is))
-marked_at p (x ∷ xs) zero is = (x, refl, is)
-marked_at p (x ∷ xs) (suc i) is = marked_at p xs i is
-
--- where no part passes
-pub none_has : {X : Type 0} (p : X → Bool) (xs : List X) (from : ℕ) → ((i : ℕ) (x : X) → slice_get xs i ≡ Some x → p x ≡ false) → IsLeast (IsAt (λ x. p x ≡ true) xs) from None
-none_has p xs from none = least_by (IsAt (λ x. p x ≡ true) xs) from None (λ n is. absurd (none-some n is)) (λ i ge before (x, at, is). both_ways (p x) (none i x at) is)
-
 -- one of two rows that say the same is set in both
 set_alike : (ms bs : List Bool) (i : ℕ) (b : Bool) → ((j : ℕ) → is_marked ms j ≡ is_marked bs j) → i < length ms → i < length bs → (j : ℕ) → is_marked (set ms i b) j ≡ is_marked (set bs i b) j
 set_alike ms bs i b same there here j = grind (arith, nat_tests, cases_eq, get_or-set_at, get_or-set_other)
@@ -504,15 +459,6 @@ module _ {X : Type 0} (p : X → Bool) (xs : List X) (ms : List Bool) (are : Are
 
   pub mark_at : (i : ℕ) (x : X) → slice_get xs i ≡ Some x → is_marked ms i ≡ p x
   mark_at i x at = mark_of i x (slice_get_within xs i x at) (sym (get_or_from_slice_get xs i x x at))
-
-  pub at_mark : (i : ℕ) → is_marked ms i ≡ true → IsAt (λ x. p x ≡ true) xs i
-  at_mark i marked = marked_at p xs i (sym (are.tell i) ∙ marked)
-
-  -- a search over the marks is one over the parts
-  pub marked_least : (from : ℕ) (r : Option ℕ) → IsNextMark ms from r → IsLeast (IsAt (λ x. p x ≡ true) xs) from r
-  marked_least from r next =
-      least_by (IsAt (λ x. p x ≡ true) xs) from r (λ n found. ((next.found n found).0, at_mark n (next.found n found).1))
-      (λ i ge before (x, at, has). both_ways (p x) (sym (mark_at i x at) ∙ next.unmarked i ge before) has)
 
   -- the next part has no mark yet
   pub unmarked_next : (n : ℕ) → n ≡ length xs → is_marked ms n ≡ false
@@ -668,39 +614,66 @@ below_here marks full first w r are whole of fits lowest below le i lt =
         before None e lt = subst (IsBefore j) e tt
         before (Some n) e lt = subst (IsBefore j) e lt
 
--- ---- Marks of receiving halves that have an answer for their owner.
+-- ---- Marks that tell of which streams what is kept passes a test.
 
--- the mark of an index tells whether the lane there has an answer
-pub recv_mark_is : (t : RecvTask) (xs : List RecvLane) (i : ℕ) → is_marked (map (has t) xs) i ≡ has_one t (slice_get xs i)
-recv_mark_is t [] i = mark_past [] i (omega arith)
-recv_mark_is t (x ∷ xs) zero = refl
-recv_mark_is t (x ∷ xs) (suc i) = recv_mark_is t xs i
+-- the mark of an index tells it of what is there
+pub mark_tells : {X : Type 0} (p : X → Bool) (xs : List X) (i : ℕ) → is_marked (map p xs) i ≡ one_has p (slice_get xs i)
+mark_tells p [] i = mark_past [] i (omega arith)
+mark_tells p (x ∷ xs) zero = refl
+mark_tells p (x ∷ xs) (suc i) = mark_tells p xs i
 
-held_at : (t : RecvTask) (recvs : Tables RecvLane) (n : ℕ) (o : Option RecvLane) → lookup recvs n ≡ o → has_one t o ≡ true → IsHeld (HasOne t) recvs n
-held_at t recvs n None at is = absurd (true≢false (sym is))
-held_at t recvs n (Some l) at is = (l, at, is)
+sought_mark : (told : Bool) (ms ts : List Bool) (i : ℕ) → is_marked (if told then both ms ts else untold ms ts) i ≡ true → (is_marked ms i ≡ true) × (is_marked ts i ≡ told)
+sought_mark told ms ts i is = grind (arith, nat_tests, both_is, untold_is)
 
--- the marks of the streams of a type
-module _ (t : RecvTask) (recvs : Tables RecvLane) (ms : List Bool) (k : ℕ) (small : k < 4) (marks : (n : ℕ) → type_of n ≡ k → is_marked ms (n / 4) ≡ has_one t (lookup recvs n)) where
-  marked_held : (n : ℕ) → type_of n ≡ k → is_marked ms (n / 4) ≡ true → IsHeld (HasOne t) recvs n
-  marked_held n kind is = held_at t recvs n (lookup recvs n) refl (sym (marks n kind) ∙ is)
+mark_sought : (told : Bool) (ms ts : List Bool) (i : ℕ) → is_marked ms i ≡ true → is_marked ts i ≡ told → is_marked (if told then both ms ts else untold ms ts) i ≡ true
+mark_sought told ms ts i is free = grind (arith, nat_tests, both_is, untold_is)
 
-  held_marked : (n : ℕ) → type_of n ≡ k → IsHeld (HasOne t) recvs n → is_marked ms (n / 4) ≡ true
-  held_marked n kind (l, at, is) = marks n kind ∙ ap (has_one t) at ∙ is
+module _ {X : Type 0} (p : X → Bool) (t : Tables X) where
+  abbrev Passes : ℕ → Type 0
+  Passes = IsHeld (λ x. p x ≡ true) t
 
-  pub none_recv_marked : AreEndsMarked (HasOne t) recvs k ms
-  none_recv_marked n kind none held = both_ways (is_marked ms (n / 4)) none (held_marked n kind held)
+  passes_at : (n : ℕ) (o : Option X) → lookup t n ≡ o → one_has p o ≡ true → Passes n
+  passes_at n None at is = absurd (true≢false (sym is))
+  passes_at n (Some x) at is = (x, at, is)
 
-  -- a search over them is one over the streams
-  pub next_held : (from : ℕ) (r : Option ℕ) → IsLeast (IsMarkedOf ms k) from r → IsLeast (IsHeldOf (HasOne t) recvs k) from r
-  next_held from r = least_as (IsMarkedOf ms k) (IsHeldOf (HasOne t) recvs k) from r (λ n (kind, is). (kind, marked_held n kind is)) (λ n (kind, held). (kind, held_marked n kind held))
+  module _ (ms : List Bool) (k : ℕ) (marks : TellWhich p t k ms) where
+    marked_passes : (n : ℕ) → type_of n ≡ k → is_marked ms (n / 4) ≡ true → Passes n
+    marked_passes n kind is = passes_at n (lookup t n) refl (sym (marks n kind) ∙ is)
 
-  pub next_untold : (told : Tables Bool) (r : Option ℕ) → IsNextMark (untold (both ms ms) (table told k)) 0 r → IsLeast (IsUntoldOf (IsHeld (HasOne t) recvs) told k) 0 (option_map (λ i. i * 4 + k) r)
-  next_untold told r next =
-      next_of (IsUntold (IsHeld (HasOne t) recvs) told) (untold ms (table told k)) k 0 0 small (omega (arith, small))
-      (λ n kind (held, free). untold_is ms (table told k) (n / 4) ∙ ap (λ b. b && not (is_marked (table told k) (n / 4))) (held_marked n kind held) ∙ ap not (sym (told_of told n k kind) ∙ free))
-      (λ n kind is. (let left = left_at ms (table told k) (n / 4) is in (marked_held n kind left.0, told_of told n k kind ∙ left.1)))
-      r (next_self ms (table told k) 0 r next)
+    pub passes_marked : (n : ℕ) → type_of n ≡ k → Passes n → is_marked ms (n / 4) ≡ true
+    passes_marked n kind (x, at, is) = marks n kind ∙ ap (one_has p) at ∙ is
+
+    -- a search over them is one over the streams
+    pub next_passes : (from : ℕ) (r : Option ℕ) → IsLeast (IsMarkedOf ms k) from r → IsLeast (IsHeldOf (λ x. p x ≡ true) t k) from r
+    next_passes from r = least_as (IsMarkedOf ms k) (IsHeldOf (λ x. p x ≡ true) t k) from r (λ n (kind, is). (kind, marked_passes n kind is)) (λ n (kind, held). (kind, passes_marked n kind held))
+
+    -- of those that an owner was told of, or wasn't
+    pub next_sought : (b : Bool) (told : Tables Bool) (from : ℕ) (r : Option ℕ) → IsLeast (IsMarkedOf (if b then both ms (table told k) else untold ms (table told k)) k) from r → IsLeast (λ n. (type_of n ≡ k) × (Passes n × (is_told told n ≡ b))) from r
+    next_sought b told from r =
+        least_as (IsMarkedOf (if b then both ms (table told k) else untold ms (table told k)) k) (λ n. (type_of n ≡ k) × (Passes n × (is_told told n ≡ b))) from r
+        (λ n (kind, is). (let m = sought_mark b ms (table told k) (n / 4) is in (kind, (marked_passes n kind m.0, told_of told n k kind ∙ m.1))))
+        (λ n (kind, (held, is)). (kind, mark_sought b ms (table told k) (n / 4) (passes_marked n kind held) (sym (told_of told n k kind) ∙ is)))
+
+    pub next_untold : (told : Tables Bool) (from : ℕ) (r : Option ℕ) → IsLeast (IsMarkedOf (untold (both ms ms) (table told k)) k) from r → IsLeast (λ n. (type_of n ≡ k) × (Passes n × (is_told told n ≡ false))) from r
+    next_untold told from r h = next_sought false told from r (subst (λ xs. IsLeast (IsMarkedOf (untold xs (table told k)) k) from r) (both_self ms) h)
+
+  -- where no type has a mark none passes
+  pub none_passes : (a b c d : List Bool) → TellWhich p t 0 a → TellWhich p t 1 b → TellWhich p t 2 c → TellWhich p t 3 d → IsUntoldClear a → IsUntoldClear b → IsUntoldClear c → IsUntoldClear d → (n : ℕ) (x : X) → lookup t n ≡ Some x → p x ≡ false
+  none_passes a b c d ta tb tc td na nb nc nd n x at = go (n % 4) refl (omega arith)
+    where
+      off : (ms : List Bool) (k : ℕ) → TellWhich p t k ms → IsUntoldClear ms → n % 4 ≡ k → p x ≡ false
+      off ms k tell none kind = sym (tell n kind ∙ ap (one_has p) at) ∙ none (n / 4)
+
+      go : (k : ℕ) → n % 4 ≡ k → k < 4 → p x ≡ false
+      go zero kind lt = off a 0 ta na kind
+      go (suc zero) kind lt = off b 1 tb nb kind
+      go (suc (suc zero)) kind lt = off c 2 tc nc kind
+      go (suc (suc (suc zero))) kind lt = off d 3 td nd kind
+      go (suc (suc (suc (suc k)))) kind lt = absurd (omega (arith, lt))
+
+-- both marks, where no index has one of them
+pub neither : (ms ts : List Bool) → (IsUntoldClear ms ⊎ IsUntoldClear ts) → IsNextMark (both ms ts) 0 None
+neither ms ts none = clear_next (both ms ts) 0 (λ i. grind (arith, nat_tests, both_is, none))
 
 -- A reader of such a lane waits, where what was told was an end or a reset (RFC 9000, sections 2.2 and 3.2)
 

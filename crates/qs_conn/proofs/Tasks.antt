@@ -9,7 +9,7 @@ use Rattle.std.proofs.lemmas.List.{length-append, length-map, length-take, lengt
 use Rattle.qs_send.specs.Lane.{SendLane, Sending, new_sending, new_lane as new_send_lane, after_sent, new_lane}
 use Rattle.qs_machine.specs.Tables.{Tables, table, with_table, lookup, update, updated, total, open_to, widened}
 use Rattle.qs_machine.specs.Ends.{End, on_send, is_own, is_uni, first_send_limit, opened_by_peer}
-use Rattle.qs_machine.specs.Sums.{changed, stored_on, tables_of}
+use Rattle.qs_machine.specs.Sums.{or_no_sending, changed, stored_on, tables_of}
 use Rattle.qs_machine.proofs.TableLaws.{table_same, with_same, value, total_le, total_both, total_open}
 use Rattle.std.specs.List.{sum_by, list_any, range_with_len}
 use Rattle.std.proofs.lemmas.List.Sums.{sum_by-cons, sum_by-append, sum_by-set, get_or-le-sum_by}
@@ -43,7 +43,7 @@ use Rattle.std.proofs.lemmas.Bool.{both_ways, cases_lt, true≢false, and_parts,
 use Rattle.qs_send.specs.Writable.{is_writable}
 use Rattle.qs_conn.specs.declared.send_marks.Task.{Task}
 use Rattle.qs_conn.specs.declared.send_marks.SendMarks.{SendMarks}
-use Rattle.qs_conn.specs.Marks.{is_marked, HasRoom, IsClearedFrom, IsWider}
+use Rattle.qs_conn.specs.Marks.{is_marked, one_has, HasRoom, IsClearedFrom, IsWider}
 use Rattle.std.proofs.Math.Seq.{take-append_seam}
 use Rattle.qs_conn.proofs.Marked.{mark_of, marks_set, marks_fewer, marks_wider, marks_next, unmarked_next}
 
@@ -519,3 +519,7 @@ pub sum_back : (f : Sending → ℕ) (kind limit buffer : ℕ) → ((i : ℕ) �
 sum_back f kind limit buffer none xs now n count is at =
     let ks = range_with_len (length xs) (n - length xs) in
     rw (is, at) (ap (sum_by f) (take-append_seam xs _) ∙ omega (arith, sum_by-append f xs (map (λ (i : ℕ). new_sending (i * 4 + kind) limit buffer) ks), sum_begun f kind limit buffer none ks))
+
+pub one_open : (p : Sending → Bool) (o : Option Sending) → is_some o ≡ true → one_has p o ≡ p (or_no_sending o)
+one_open p None is = absurd (true≢false (sym is))
+one_open p (Some s) is = refl

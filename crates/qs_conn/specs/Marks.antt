@@ -7,7 +7,7 @@ use Rattle.qs_machine.specs.Sums.{changed}
 use Rattle.qs_send.specs.declared.piece.Item.{Item}
 use Rattle.qs_conn.specs.declared.slot.Slot.{Slot}
 use Rattle.qs_machine.specs.Ends.{End}
-use Rattle.qs_machine.specs.News.{IsHeld}
+use Rattle.qs_machine.specs.News.{IsHeld, IsEnded}
 use Rattle.qs_machine.specs.Heard.{is_told}
 use Rattle.qs_machine.specs.Due.{IsCurrent, IsCovered}
 use Rattle.qs_conn.specs.Filling.{slot_of}
@@ -91,10 +91,6 @@ pub record IsNextMark (marks : List Bool) (from : ℕ) (answer : Option ℕ) : T
   pub found : (n : ℕ) → answer ≡ Some n → (from ≤ n) × (is_marked marks n ≡ true)
   pub unmarked : (i : ℕ) → from ≤ i → IsBefore i answer → is_marked marks i ≡ false
 
--- there is a part at an index, and it has the property
-abbrev pub IsAt : {X : Type 0} → (X → Type 0) → List X → ℕ → Type 0
-IsAt {X} P xs i = (x : X) × (slice_get xs i ≡ Some x) × P x
-
 -- a stream has the property, and an owner wasn't told of it
 abbrev pub IsUntold : (ℕ → Type 0) → Tables Bool → ℕ → Type 0
 IsUntold P told n = P n × (is_told told n ≡ false)
@@ -107,9 +103,18 @@ IsUntoldOf P told kind n = (type_of n ≡ kind) × IsUntold P told n
 abbrev pub IsHeldOf : {X : Type 0} → (X → Type 0) → Tables X → ℕ → ℕ → Type 0
 IsHeldOf {X} P t kind n = (type_of n ≡ kind) × IsHeld P t n
 
--- a stream of a type without a mark doesn't have the property
-abbrev pub AreEndsMarked : {X : Type 0} → (X → Type 0) → Tables X → ℕ → List Bool → Type 0
-AreEndsMarked {X} P t kind marks = (n : ℕ) → type_of n ≡ kind → is_marked marks (n / 4) ≡ false → IsHeld P t n → ⊥
+-- whether there is something that passes a test
+abbrev pub one_has : {X : Type 0} → (X → Bool) → Option X → Bool
+one_has p None = false
+one_has p (Some x) = p x
+
+-- the marks of a type tell of which streams what is kept passes a test
+abbrev pub TellWhich : {X : Type 0} → (X → Bool) → Tables X → ℕ → List Bool → Type 0
+TellWhich p t kind marks = (n : ℕ) → type_of n ≡ kind → is_marked marks (n / 4) ≡ one_has p (lookup t n)
+
+-- the marks of a type tell which streams are over
+abbrev pub AreEndsMarked : End → ℕ → List Bool → Type 0
+AreEndsMarked e kind marks = (n : ℕ) → type_of n ≡ kind → (is_marked marks (n / 4) ≡ true → IsEnded e n) × (IsEnded e n → is_marked marks (n / 4) ≡ true)
 
 -- no index of a word of 64 is marked
 abbrev pub HasNoMark : List Bool → ℕ → Type 0

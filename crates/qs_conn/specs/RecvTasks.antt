@@ -1,13 +1,13 @@
 -- Of private contracts.
 -- Which receiving halves have an answer for their owner, and the marks of those that may.
-use Rattle.std.specs.Prelude.{◌≡◌, Bool, true, false, List, Option, None, Some}
+use Rattle.std.specs.Prelude.{◌≡◌, Bool, true, false, List, Option}
 use Rattle.qs_recv.specs.Lane.{RecvLane}
 use Rattle.qs_recv.specs.News.{is_readable}
 use Rattle.qs_machine.specs.Credit.{recv_ended}
 use Rattle.qs_conn.specs.declared.recv_marks.RecvTask.{RecvTask}
 use Rattle.qs_conn.specs.declared.recv_marks.RecvTask.TheVariants as tasks
 use Rattle.qs_conn.specs.declared.recv_marks.RecvMarks.{RecvMarks}
-use Rattle.qs_conn.specs.Marks.{AreMarksFor}
+use Rattle.qs_conn.specs.Marks.{AreMarksFor, one_has}
 
 -- whether a lane has an answer of a kind: something to read, or its end (RFC 9000, section 3.2)
 abbrev pub has : RecvTask → RecvLane → Bool
@@ -32,5 +32,4 @@ AreNoted lanes marks = (t : RecvTask) → AreMarksFor (has t) lanes (marks_of ma
 
 -- whether there is a lane that has an answer of a kind
 abbrev pub has_one : RecvTask → Option RecvLane → Bool
-has_one t None = false
-has_one t (Some l) = has t l
+has_one t = one_has (has t)

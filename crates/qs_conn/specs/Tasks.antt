@@ -1,6 +1,6 @@
 -- Of private contracts.
 -- Which sending halves have something for a packet or for their owner, by what it is, and those that have not.
-use Rattle.std.specs.Prelude.{◌≡◌, ℕ, ◌≤◌, ◌<◌, ◌⊎◌, ◌&&◌, ◌||◌, ◌==◌, nat_lt, Bool, true, false, if◌then◌else◌, List, Some, is_some, ⊤}
+use Rattle.std.specs.Prelude.{◌≡◌, ℕ, ◌≤◌, ◌<◌, ◌⊎◌, ◌&&◌, ◌||◌, ◌==◌, nat_lt, Bool, true, false, List, Some, is_some, ⊤}
 use Rattle.std.specs.List.{list_any, range_with_len}
 use Rattle.std.specs.FinSet as set
 use Rattle.qs_send.specs.declared.parts.Chunk.{Chunk}
@@ -20,7 +20,7 @@ use Rattle.qs_conn.specs.declared.send_marks.Task.{Task}
 use Rattle.qs_conn.specs.declared.send_marks.Task.TheVariants as tasks
 use Rattle.qs_conn.specs.declared.send_marks.Search.{Search}
 use Rattle.qs_conn.specs.declared.send_marks.SendMarks.{SendMarks}
-use Rattle.qs_conn.specs.Marks.{is_marked, both, untold, AreMarksFor, IsAt}
+use Rattle.qs_conn.specs.Marks.{is_marked, AreMarksFor}
 
 -- whether a byte below n is due (RFC 9000, section 13.3)
 unfoldable pub is_due_below : Sending → ℕ → Bool
@@ -139,15 +139,7 @@ IsFree o n c = (s : Sending) → HasSending o n s → (s.lane.written ≤ s.lane
 abbrev pub IsShort : Outgoing → ℕ → Type 0
 IsShort o n = (s : Sending) → HasSending o n s → s.lane.sent_end < s.lane.limit
 
--- those of the marks that an owner was told of, or those that it wasn't, as a search asks
-abbrev pub sought_of : Search → List Bool → List Bool → List Bool
-sought_of q marks told = if q.is_told then both marks told else untold marks told
-
--- the half at an index has something of the kind that a search asks for, and an owner was told of its stream, or wasn't, as it asks
-abbrev pub IsSoughtAt : Search → List Sending → List Bool → ℕ → Type 0
-IsSoughtAt q halves told i = IsAt (HasTask q.task) halves i × (is_marked told i ≡ q.is_told)
-
--- so it is with the half of a stream
+-- the half of a stream has something of the kind that a search asks for, and an owner was told of its stream, or wasn't, as it asks
 abbrev pub IsSought : Search → Tables Sending → Tables Bool → ℕ → Type 0
 IsSought q t told n = IsHeld (HasTask q.task) t n × (is_told told n ≡ q.is_told)
 

@@ -1,5 +1,5 @@
 //! Which streams of one type may have something to send or to tell.
-ghost use Rattle.std.specs.Prelude.{List, Bool, None, ◌≡◌, ◌++◌, ◌+◌, ◌*◌, ◌-◌, ◌<◌, ◌≤◌, ◌^◌, ℕ, [], true, false, Some, length, slice_set, replicate, IfSome, OnOk, OnErr};
+ghost use Rattle.std.specs.Prelude.{List, Bool, None, ◌≡◌, ◌++◌, ◌+◌, ◌*◌, ◌-◌, ◌<◌, ◌≤◌, ◌^◌, ℕ, [], true, false, Some, length, slice_set, option_map, replicate, IfSome, OnOk, OnErr};
 ghost use Rattle.qs_machine.specs.News.{IsLeast};
 ghost use Rattle.qs_conn.specs.Marks.{IsClear, is_marked, HasRoom, IsClearedFrom, IsWider, IsNextMark, IsMarkedOf, AreSummed, AreUnmarkedFrom, least_of, both, untold};
 
@@ -174,18 +174,23 @@ impl Marks {
         ensures least { IsLeast (IsMarkedOf self.now stream_type) from result }
         ensures small { IfSome result (λ n. n < 2 ^ 62) }
     {
-        match self.next(index_from(stream_type, from)) {
-            Some(index) => Some((index * 4 + stream_type) as u64),
-            None => None,
-        }
+        numbered(stream_type, self.next(index_from(stream_type, from)))
     }
 
+    /// The least stream of a type with both marks, by number.
     #[inline(never)]
     #[tactic(auto, using(crate::proofs::Marked::next_small, crate::proofs::Boths::both_len))]
-    pub(crate) fn next_both(&self, others: &Marks, from: usize) -> Option<usize>
-        ensures next { IsNextMark (both self.now others.now) from result }
-        ensures small { IfSome result (λ n. n < 2 ^ 60) }
+    pub(crate) fn next_both(&self, others: &Marks, stream_type: usize) -> Option<u64>
+        requires { stream_type < 4 }
+        ensures least { IsLeast (IsMarkedOf (both self.now others.now) stream_type) 0 result }
+        ensures small { IfSome result (λ n. n < 2 ^ 62) }
     {
+        if !self.may_have() {
+            return None;
+        }
+        if !others.may_have() {
+            return None;
+        }
         let summary = Both {
             marks: &self.words,
             others: &others.words,
@@ -194,25 +199,22 @@ impl Marks {
             marks: &self.marks,
             others: &others.marks,
         };
-        search(from, self.marks.words(), &summary, &row)
+        numbered(stream_type, search(0, self.marks.words(), &summary, &row))
     }
 
-    /// Whether one of those with a mark may not have been told.
+    /// The least stream of a type from a number on with both marks that wasn't told. If only these marks count, they are both, so that one search serves all.
     #[inline(always)]
-    pub(crate) fn may_have_untold(&self, told: &ToldMarks) -> bool
-        ensures { result ≡ false → (others : List Bool) → IsNextMark (untold (both self.now others) told.now) 0 None }
-    {
-        match self.first {
-            Some(_first) => self.last >= told.first(),
-            None => false,
-        }
-    }
-
-    /// If only these marks count, they are both, so that one search serves all.
-    #[inline(always)]
-    pub(crate) fn next_untold(&self, others: &Marks, told: &ToldMarks, from: usize) -> Option<usize>
-        ensures next { IsNextMark (untold (both self.now others.now) told.now) from result }
-        ensures small { IfSome result (λ n. n < 2 ^ 60) }
+    pub(crate) fn next_untold(
+        &self,
+        others: &Marks,
+        told: &ToldMarks,
+        stream_type: usize,
+        from: u64,
+    ) -> Option<u64>
+        requires stream_type { stream_type < 4 }
+        requires from { from ≤ 2 ^ 62 }
+        ensures least { IsLeast (IsMarkedOf (untold (both self.now others.now) told.now) stream_type) from result }
+        ensures small { IfSome result (λ n. n < 2 ^ 62) }
     {
         let first = self.first?;
         let below = told.first();
@@ -220,7 +222,8 @@ impl Marks {
         if self.last < below {
             return None;
         }
-        self.least_untold(others, told, from.max(first).max(below))
+        let start = index_from(stream_type, from).max(first).max(below);
+        numbered(stream_type, self.least_untold(others, told, start))
     }
 
     #[inline(always)]
@@ -246,6 +249,19 @@ impl Marks {
             told: told.bits(),
         };
         search(from, self.marks.words(), &summary, &row)
+    }
+}
+
+// The stream of a type that has an index.
+fn numbered(stream_type: usize, index: Option<usize>) -> Option<u64>
+    requires stream_type { stream_type < 4 }
+    requires index { IfSome index (λ i. i < 2 ^ 60) }
+    ensures value { result ≡ option_map (λ i. i * 4 + stream_type) index }
+    ensures small { IfSome result (λ n. n < 2 ^ 62) }
+{
+    match index {
+        Some(index) => Some((index * 4 + stream_type) as u64),
+        None => None,
     }
 }
 

@@ -325,10 +325,7 @@ impl RecvTables {
         ensures small { IfSome result (λ n. n < 2 ^ 62) }
     {
         let marks = self.marks(task, stream_type);
-        match marks.next_untold(marks, told.of_type(stream_type), 0) {
-            Some(index) => Some((index * 4 + stream_type) as u64),
-            None => None,
-        }
+        marks.next_untold(marks, told.of_type(stream_type), stream_type, 0)
     }
 
     /// The marks of the streams of a type, by index, whose receiving half has such an answer for its owner.

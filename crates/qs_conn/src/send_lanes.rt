@@ -5,21 +5,18 @@ ghost use Rattle.qs_send.specs.Lane.{Sending, new_sending};
 ghost use Rattle.qs_send.specs.Sound.{IsLawful};
 ghost use Rattle.qs_machine.specs.Tables.{widened};
 ghost use Rattle.qs_machine.specs.Sums.{changed, no_sending};
-ghost use Rattle.qs_machine.specs.News.{IsLeast};
 ghost use Rattle.qs_machine.specs.Asking.{kept_on};
 ghost use Rattle.qs_conn.specs.Rooms.{IsBuffer, IsSumOf};
 ghost use Rattle.std.specs.Fn.{FnOnceTakesAtMut, FnOnceReturnsAtMut};
 ghost use Rattle.qs_send.specs.Halves.{IsOver, half_at};
 ghost use Rattle.qs_conn.specs.Edits.{IsEdited, LeavesStill, MaySet, OrStays, after_set};
 ghost use Rattle.qs_conn.specs.Promised.{promised_on};
-ghost use Rattle.qs_conn.specs.Marks.{is_marked, IsAt};
-ghost use Rattle.qs_conn.specs.declared.send_marks.Task.TheVariants as tasks;
-ghost use Rattle.qs_conn.specs.Tasks.{AreMarksOf, HasTask, IsQuiet, IsSoughtAt, Stays, counted, has, marks_of};
+ghost use Rattle.qs_conn.specs.Marks.{is_marked, one_has};
+ghost use Rattle.qs_conn.specs.Tasks.{AreMarksOf, Stays, counted, has, marks_of};
 
 use crate::holds::Holds;
 use crate::marks::Marks;
-use crate::send_marks::{Moves, Search, SendMarks, Task};
-use crate::told_marks::ToldMarks;
+use crate::send_marks::{Moves, SendMarks, Task};
 use qs_ranges::NoMemory;
 use qs_send::{SendHalf, SendHalves, SendView};
 use qs_wire::StreamId;
@@ -222,42 +219,12 @@ impl SendLanes {
         self.halves.settle(index);
     }
 
+    /// The marks of the halves that have a task.
     #[inline(always)]
-    pub(crate) fn has(&self, index: usize, task: Task) -> bool
-        requires { index < length self.now }
-        ensures { result ≡ has task (half_at self.now index) }
+    pub(crate) fn marks(&self, task: Task) -> &Marks
+        ensures { (i : ℕ) → is_marked result.now i ≡ one_has (has task) (slice_get self.now i) }
     {
-        self.marks.has(task, index)
-    }
-
-    #[inline(always)]
-    pub(crate) fn may_have(&self, task: Task) -> bool
-        ensures { result ≡ false → (i : ℕ) (s : Sending) → slice_get self.now i ≡ Some s → IsQuiet task s }
-    {
-        self.marks.may_have(task)
-    }
-
-    /// The marks of the halves that came to their end.
-    pub(crate) fn ended_marks(&self) -> &Marks
-        ensures { (i : ℕ) (s : Sending) → slice_get self.now i ≡ Some s → is_marked result.now i ≡ false → IsQuiet tasks.Ended s }
-    {
-        self.marks.of(Task::Ended)
-    }
-
-    /// The least index from one on whose half has a task.
-    pub(crate) fn next_with(&self, task: Task, from: usize) -> Option<usize>
-        ensures least { IsLeast (IsAt (HasTask task) self.now) from result }
-        ensures small { IfSome result (λ n. n < 2 ^ 60) }
-    {
-        self.marks.next(task, from)
-    }
-
-    #[inline(always)]
-    pub(crate) fn next_sought(&self, search: Search, told: &ToldMarks, from: usize) -> Option<usize>
-        ensures least { IsLeast (IsSoughtAt search self.now told.now) from result }
-        ensures small { IfSome result (λ n. n < 2 ^ 60) }
-    {
-        self.marks.next_sought(search, told, from)
+        self.marks.of(task)
     }
 }
 

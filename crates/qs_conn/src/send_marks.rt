@@ -1,11 +1,10 @@
 ghost use Rattle.std.specs.Prelude.{◌≡◌, ◌+◌, ◌<◌, ◌^◌, [], false, slice_set, IfSome, OnOk};
 ghost use Rattle.qs_machine.specs.Credit.{send_ended};
 ghost use Rattle.qs_conn.specs.Marks.{IsClear, is_marked, HasRoom, IsClearedFrom, IsNextMark, IsWider};
-ghost use Rattle.qs_conn.specs.Tasks.{AreMarkedBefore, begins, has, is_due_below, marks_of, may_end, sought_of};
+ghost use Rattle.qs_conn.specs.Tasks.{AreMarkedBefore, begins, has, is_due_below, marks_of, may_end};
 ghost use Rattle.qs_conn.specs.declared.send_marks.Task.TheVariants as tasks;
 
 use crate::marks::Marks;
-use crate::told_marks::ToldMarks;
 use qs_ranges::NoMemory;
 use qs_send::{SendHalf, SendState};
 use std::alloc::Global;
@@ -141,46 +140,6 @@ impl SendMarks {
         self.writable.set(index, is_writable);
         self.funded
             .set(index, is_writable && half.written() < half.limit());
-    }
-
-    /// Whether a half has a task.
-    #[inline(always)]
-    pub(crate) fn has(&self, task: Task, index: usize) -> bool
-        ensures { result ≡ is_marked (marks_of self.now task) index }
-    {
-        self.of(task).has(index)
-    }
-
-    #[inline(always)]
-    pub(crate) fn may_have(&self, task: Task) -> bool
-        ensures { result ≡ false → IsClear (marks_of self.now task) }
-    {
-        self.of(task).may_have()
-    }
-
-    #[inline(always)]
-    pub(crate) fn next(&self, task: Task, from: usize) -> Option<usize>
-        ensures next { IsNextMark (marks_of self.now task) from result }
-        ensures small { IfSome result (λ n. n < 2 ^ 60) }
-    {
-        self.of(task).next(from)
-    }
-
-    #[inline(always)]
-    #[tactic(auto, using(crate::proofs::Hearing::none_told, crate::proofs::Hearing::asked_untold, crate::proofs::Hearing::asked_told))]
-    pub(crate) fn next_sought(&self, search: Search, told: &ToldMarks, from: usize) -> Option<usize>
-        ensures next { IsNextMark (sought_of search (marks_of self.now search.task) told.now) from result }
-        ensures small { IfSome result (λ n. n < 2 ^ 60) }
-    {
-        let marks = self.of(search.task);
-        if !search.is_told {
-            return marks.next_untold(marks, told, from);
-        }
-        let others = told.marks();
-        if !others.may_have() {
-            return None;
-        }
-        marks.next_both(others, from)
     }
 
     #[inline(always)]

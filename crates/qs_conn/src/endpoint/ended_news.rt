@@ -1,12 +1,10 @@
-ghost use Rattle.std.specs.Prelude.{◌≡◌, ◌≤◌, ◌<◌, ◌^◌, ◌/◌, ℕ, true, false, IfSome};
-ghost use Rattle.qs_machine.specs.Tables.{type_of};
-ghost use Rattle.qs_machine.specs.Heard.{is_told};
+ghost use Rattle.std.specs.Prelude.{◌≤◌, ◌<◌, ◌^◌, IfSome};
 ghost use Rattle.qs_machine.specs.News.{IsLeast, IsEnded};
-ghost use Rattle.qs_conn.specs.Marks.{IsBefore, IsUntold, IsUntoldOf, is_marked, both};
+ghost use Rattle.qs_conn.specs.Marks.{AreEndsMarked, IsUntold, IsUntoldOf, both};
 
-use super::{Endpoint, is_uni, role_bit};
+use super::{Endpoint, role_bit};
 use crate::marks::Marks;
-use crate::places::{index_from, least_stream};
+use crate::places::least_stream;
 use crate::recv_marks::RecvTask;
 use crate::told_streams::ToldStreams;
 use qs_wire::StreamId;
@@ -38,7 +36,6 @@ impl Endpoint {
         )
     }
 
-    // Apart, so that a caller pays for one look at the counts if no stream is over.
     #[inline(always)]
     fn next_ended_of(&self, stream_type: usize, told: &ToldStreams, from: u64) -> Option<u64>
         requires stream_type { stream_type < 4 }
@@ -46,44 +43,15 @@ impl Endpoint {
         ensures least { IsLeast (IsUntoldOf (IsEnded self.now) told.now stream_type) from result }
         ensures small { IfSome result (λ n. n < 2 ^ 62) }
     {
-        let (marks, _others) = self.ended_marks(stream_type);
-        if !marks.may_have_untold(told.of_type(stream_type)) {
-            return None;
-        }
-        let mut next = from;
-        while let Some(stream) = self.next_ended_marked(stream_type, told, next) {
-            if self.has_ended(stream) {
-                return Some(stream.value());
-            }
-            next = stream.value() + 1;
-        }
-        None
-    }
-
-    // None of the streams between is over.
-    #[inline(always)]
-    fn next_ended_marked(
-        &self,
-        stream_type: usize,
-        told: &ToldStreams,
-        from: u64,
-    ) -> Option<StreamId>
-        requires stream_type { stream_type < 4 }
-        requires from { from ≤ 2 ^ 62 }
-        ensures found { IfSome result (λ n. (from ≤ n) × (n < 2 ^ 62) × (type_of n ≡ stream_type) × (is_told told.now n ≡ false)) }
-        ensures none { (n : ℕ) → from ≤ n → IsBefore n result → IsUntoldOf (IsEnded self.now) told.now stream_type n → ⊥ }
-    {
         let (marks, others) = self.ended_marks(stream_type);
-        let first = index_from(stream_type, from);
-        let index = marks.next_untold(others, told.of_type(stream_type), first)?;
-        StreamId::new((index * 4 + stream_type) as u64)
+        marks.next_untold(others, told.of_type(stream_type), stream_type, from)
     }
 
     // Of a stream with one half its marks twice, so that the search is the same for all types.
     #[inline(always)]
     fn ended_marks(&self, stream_type: usize) -> (&Marks, &Marks)
         requires { stream_type < 4 }
-        ensures { (n : ℕ) → type_of n ≡ stream_type → is_marked (both result.0.now result.1.now) (n / 4) ≡ false → IsEnded self.now n → ⊥ }
+        ensures { AreEndsMarked self.now stream_type (both result.0.now result.1.now) }
     {
         let receiving = self.core.recvs.marks(RecvTask::Ended, stream_type);
         let sending = self.core.outbox.ended_marks(stream_type);
@@ -93,20 +61,6 @@ impl Endpoint {
             (sending, sending)
         } else {
             (receiving, receiving)
-        }
-    }
-
-    #[tactic(auto, using(crate::proofs::Hearing::bidi_over, crate::proofs::Hearing::own_over, crate::proofs::Hearing::peers_over))]
-    fn has_ended(&self, stream: StreamId) -> bool
-        ensures is { result ≡ true → IsEnded self.now stream }
-        ensures not { result ≡ false → IsEnded self.now stream → ⊥ }
-    {
-        if !is_uni(stream) {
-            self.core.recvs.has_ended(stream) && self.core.outbox.has_ended(stream)
-        } else if self.is_own(stream) {
-            self.core.outbox.has_ended(stream)
-        } else {
-            self.core.recvs.has_ended(stream)
         }
     }
 }

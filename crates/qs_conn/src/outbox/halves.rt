@@ -7,10 +7,11 @@ ghost use Rattle.qs_machine.specs.Sums.{or_no_sending, tables_of};
 ghost use Rattle.qs_machine.specs.News.{IsLeast, IsHeld};
 ghost use Rattle.std.specs.Fn.{FnOnceTakesAtMut, FnOnceReturnsAtMut};
 ghost use Rattle.qs_conn.specs.Edits.{IsEditedIn, LeavesStill, MaySet, OrStays, after_set};
-ghost use Rattle.qs_conn.specs.Marks.{IsHeldOf};
+ghost use Rattle.qs_conn.specs.Marks.{TellWhich};
 ghost use Rattle.qs_conn.specs.Tasks.{IsQuiet, HasTask, IsSoughtOf, has};
 
-use crate::places::{index_from, index_of, least_stream, type_of};
+use crate::marks::Marks;
+use crate::places::{index_of, least_stream, type_of};
 use crate::send_lanes::{SendLanes, Setting};
 use crate::send_marks::{Moves, Search, Task};
 use crate::told_streams::ToldStreams;
@@ -62,15 +63,24 @@ pub(super) fn set(types: &mut [SendLanes; 4], stream: StreamId, setting: Setting
     }
 }
 
+/// The marks of the streams of a type, by index, whose half has a task.
 #[inline(always)]
-#[tactic(auto, using(qs_machine::proofs::TableEdits::open_there, qs_machine::proofs::TableEdits::half_is))]
+pub(super) fn marks(types: &[SendLanes; 4], task: Task, stream_type: usize) -> &Marks
+    requires len { length types.now ≡ 4 }
+    requires stream_type { stream_type < 4 }
+    ensures { TellWhich (has task) (tables_of types.now) stream_type result.now }
+{
+    let lanes = &types[stream_type];
+    lanes.marks(task)
+}
+
+#[inline(always)]
 pub(super) fn has(types: &[SendLanes; 4], stream: StreamId, task: Task) -> bool
     requires len { length types.now ≡ 4 }
     requires open { is_some (lookup (tables_of types.now) stream) ≡ true }
     ensures { result ≡ has task (or_no_sending (lookup (tables_of types.now) stream)) }
 {
-    let lanes = &types[type_of(stream)];
-    lanes.has(index_of(stream), task)
+    marks(types, task, type_of(stream)).has(index_of(stream))
 }
 
 /// What holds of an open stream's half. It does nothing: a caller learns the clause.
@@ -100,54 +110,34 @@ pub(super) fn may_have(types: &[SendLanes; 4], task: Task) -> bool
     requires { length types.now ≡ 4 }
     ensures { result ≡ false → (n : ℕ) (s : Sending) → lookup (tables_of types.now) n ≡ Some s → IsQuiet task s }
 {
-    if types[0].may_have(task) {
+    if marks(types, task, 0).may_have() {
         return true;
     }
-    if types[1].may_have(task) {
+    if marks(types, task, 1).may_have() {
         return true;
     }
-    if types[2].may_have(task) {
+    if marks(types, task, 2).may_have() {
         return true;
     }
-    types[3].may_have(task)
+    marks(types, task, 3).may_have()
 }
 
 /// The least number from one on of a stream whose half has a task. It stands apart, so that where no half has it a caller pays for the
 /// look at that alone.
 #[inline(never)]
-#[tactic(auto, using(crate::proofs::Marked::kinds_four))]
 pub(super) fn next_with(types: &[SendLanes; 4], task: Task, from: u64) -> Option<StreamId>
     requires len { length types.now ≡ 4 }
     requires from { from ≤ 2 ^ 62 }
     ensures { IsLeast (IsHeld (HasTask task) (tables_of types.now)) from result }
 {
     least_stream(
-        next_of(types, task, 0, from),
-        next_of(types, task, 1, from),
-        next_of(types, task, 2, from),
-        next_of(types, task, 3, from),
+        marks(types, task, 0).next_stream(0, from),
+        marks(types, task, 1).next_stream(1, from),
+        marks(types, task, 2).next_stream(2, from),
+        marks(types, task, 3).next_stream(3, from),
     )
 }
 
-#[inline(always)]
-fn next_of(types: &[SendLanes; 4], task: Task, stream_type: usize, from: u64) -> Option<u64>
-    requires len { length types.now ≡ 4 }
-    requires stream_type { stream_type < 4 }
-    requires from { from ≤ 2 ^ 62 }
-    ensures least { IsLeast (IsHeldOf (HasTask task) (tables_of types.now) stream_type) from result }
-    ensures small { IfSome result (λ n. n < 2 ^ 62) }
-{
-    let lanes = &types[stream_type];
-    if !lanes.may_have(task) {
-        return None;
-    }
-    match lanes.next_with(task, index_from(stream_type, from)) {
-        Some(index) => Some((index * 4 + stream_type) as u64),
-        None => None,
-    }
-}
-
-/// Of a type of which no half has a mark a caller pays for one look.
 #[inline(always)]
 pub(super) fn next_sought_of(
     types: &[SendLanes; 4],
@@ -160,12 +150,10 @@ pub(super) fn next_sought_of(
     ensures least { IsLeast (IsSoughtOf search (tables_of types.now) told.now stream_type) 0 result }
     ensures small { IfSome result (λ n. n < 2 ^ 62) }
 {
-    let lanes = &types[stream_type];
-    if !lanes.may_have(search.task) {
-        return None;
+    let marks = marks(types, search.task, stream_type);
+    let told = told.of_type(stream_type);
+    if search.is_told {
+        return marks.next_both(told.marks(), stream_type);
     }
-    match lanes.next_sought(search, told.of_type(stream_type), 0) {
-        Some(index) => Some((index * 4 + stream_type) as u64),
-        None => None,
-    }
+    marks.next_untold(marks, told, stream_type, 0)
 }

@@ -1,18 +1,19 @@
-ghost use Rattle.std.specs.Prelude.{◌≡◌, ◌≤◌, ◌<◌, ◌^◌, ◌↔◌, IsTrue, ℕ, Bool, IfSome, IfNone, true, false};
+ghost use Rattle.std.specs.Prelude.{◌≡◌, ◌≤◌, ◌<◌, ◌^◌, ◌/◌, ◌↔◌, IsTrue, ℕ, Bool, IfSome, IfNone, true, false};
 ghost use Rattle.qs_ranges.specs.Numbers.{MAX_VARINT};
 ghost use Rattle.qs_send.specs.Lane.{SendLane, Sending};
-ghost use Rattle.qs_machine.specs.Tables.{lookup};
+ghost use Rattle.qs_machine.specs.Tables.{lookup, type_of};
 ghost use Rattle.qs_machine.specs.Sums.{or_none};
 ghost use Rattle.qs_machine.specs.Ends.{End};
 ghost use Rattle.qs_machine.specs.News.{IsLeast, IsHeld};
 ghost use Rattle.qs_machine.specs.Heard.{is_told};
-ghost use Rattle.qs_conn.specs.Marks.{IsBefore, AreEndsMarked};
-ghost use Rattle.qs_conn.specs.Sending.{IsDueOf, MayWrite, HasSent};
+ghost use Rattle.qs_conn.specs.Marks.{IsBefore, is_marked};
+ghost use Rattle.qs_conn.specs.Ended.{send_over};
+ghost use Rattle.qs_conn.specs.Sending.{IsDueOf, MayWrite};
 ghost use Rattle.qs_conn.specs.Tasks.{IsOpen, IsQuietAt, has};
 ghost use Rattle.qs_machine.specs.Outgoing.{IsAckedOut, IsAckedReset, IsBlockedAt, WantsMore, reset_by, with_outgoing};
 
 use super::Outbox;
-use super::halves::{half_of, may_have, next_sought_of, next_with};
+use super::halves::{half_of, marks, may_have, next_sought_of, next_with};
 use crate::marks::Marks;
 use crate::places::least_stream;
 use crate::send_marks::{Search, Task};
@@ -121,14 +122,13 @@ impl Outbox {
         )
     }
 
-    /// One without a mark isn't over, so a search passes it.
+    /// The marks of the streams of a type, by index, whose sending half is over.
     pub(crate) fn ended_marks(&self, stream_type: usize) -> &Marks
         requires { stream_type < 4 }
-        ensures { AreEndsMarked HasSent self.now.sends stream_type result.now }
+        ensures { (n : ℕ) → type_of n ≡ stream_type → is_marked result.now (n / 4) ≡ send_over (lookup self.now.sends n) }
     {
         let _next = self.next;
-        let lanes = &self.types[stream_type];
-        lanes.ended_marks()
+        marks(&self.types, Task::Ended, stream_type)
     }
 
     /// Whatever the connection's limit says: that one holds all alike.

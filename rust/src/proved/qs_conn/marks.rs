@@ -129,14 +129,19 @@ impl Marks {
     pub(crate) fn next_stream(&self, stream_type: usize, from: u64) -> Option<u64> {
         debug_assert!(stream_type < 4);
         debug_assert!(from <= 1 << 62);
-        match self.next(index_from(stream_type, from)) {
-            Some(index) => Some((index * 4 + stream_type) as u64),
-            None => None,
-        }
+        numbered(stream_type, self.next(index_from(stream_type, from)))
     }
 
+    /// The least stream of a type with both marks, by number.
     #[inline(never)]
-    pub(crate) fn next_both(&self, others: &Marks, from: usize) -> Option<usize> {
+    pub(crate) fn next_both(&self, others: &Marks, stream_type: usize) -> Option<u64> {
+        debug_assert!(stream_type < 4);
+        if !self.may_have() {
+            return None;
+        }
+        if !others.may_have() {
+            return None;
+        }
         let summary = Both {
             marks: &self.words,
             others: &others.words,
@@ -145,28 +150,28 @@ impl Marks {
             marks: &self.marks,
             others: &others.marks,
         };
-        search(from, self.marks.words(), &summary, &row)
+        numbered(stream_type, search(0, self.marks.words(), &summary, &row))
     }
 
-    /// Whether one of those with a mark may not have been told.
+    /// The least stream of a type from a number on with both marks that wasn't told. If only these marks count, they are both, so that one search serves all.
     #[inline(always)]
-    pub(crate) fn may_have_untold(&self, told: &ToldMarks) -> bool {
-        match self.first {
-            Some(_first) => self.last >= told.first(),
-            None => false,
-        }
-    }
-
-    /// If only these marks count, they are both, so that one search serves all.
-    #[inline(always)]
-    pub(crate) fn next_untold(&self, others: &Marks, told: &ToldMarks, from: usize) -> Option<usize> {
+    pub(crate) fn next_untold(
+        &self,
+        others: &Marks,
+        told: &ToldMarks,
+        stream_type: usize,
+        from: u64,
+    ) -> Option<u64> {
+        debug_assert!(stream_type < 4);
+        debug_assert!(from <= 1 << 62);
         let first = self.first?;
         let below = told.first();
         // Mostly all with a mark were told.
         if self.last < below {
             return None;
         }
-        self.least_untold(others, told, from.max(first).max(below))
+        let start = index_from(stream_type, from).max(first).max(below);
+        numbered(stream_type, self.least_untold(others, told, start))
     }
 
     #[inline(always)]
@@ -188,6 +193,15 @@ impl Marks {
             told: told.bits(),
         };
         search(from, self.marks.words(), &summary, &row)
+    }
+}
+
+// The stream of a type that has an index.
+fn numbered(stream_type: usize, index: Option<usize>) -> Option<u64> {
+    debug_assert!(stream_type < 4);
+    match index {
+        Some(index) => Some((index * 4 + stream_type) as u64),
+        None => None,
     }
 }
 

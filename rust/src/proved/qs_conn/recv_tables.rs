@@ -220,10 +220,7 @@ impl RecvTables {
     fn next_untold_of(&self, task: RecvTask, stream_type: usize, told: &ToldStreams) -> Option<u64> {
         debug_assert!(stream_type < 4);
         let marks = self.marks(task, stream_type);
-        match marks.next_untold(marks, told.of_type(stream_type), 0) {
-            Some(index) => Some((index * 4 + stream_type) as u64),
-            None => None,
-        }
+        marks.next_untold(marks, told.of_type(stream_type), stream_type, 0)
     }
 
     /// The marks of the streams of a type, by index, whose receiving half has such an answer for its owner.

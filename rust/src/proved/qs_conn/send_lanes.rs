@@ -1,8 +1,7 @@
 // Made from crates/qs_conn/src/send_lanes.rt by rust/erase; not edited by hand.
 use crate::proved::qs_conn::holds::Holds;
 use crate::proved::qs_conn::marks::Marks;
-use crate::proved::qs_conn::send_marks::{Moves, Search, SendMarks, Task};
-use crate::proved::qs_conn::told_marks::ToldMarks;
+use crate::proved::qs_conn::send_marks::{Moves, SendMarks, Task};
 use crate::proved::qs_ranges::NoMemory;
 use crate::proved::qs_send::{SendHalf, SendHalves, SendView};
 use crate::proved::qs_wire::StreamId;
@@ -142,31 +141,10 @@ impl SendLanes {
         self.halves.settle(index);
     }
 
+    /// The marks of the halves that have a task.
     #[inline(always)]
-    pub(crate) fn has(&self, index: usize, task: Task) -> bool {
-        self.marks.has(task, index)
-    }
-
-    #[inline(always)]
-    pub(crate) fn may_have(&self, task: Task) -> bool {
-        self.marks.may_have(task)
-    }
-
-    /// The marks of the halves that came to their end.
-    #[inline]
-    pub(crate) fn ended_marks(&self) -> &Marks {
-        self.marks.of(Task::Ended)
-    }
-
-    /// The least index from one on whose half has a task.
-    #[inline]
-    pub(crate) fn next_with(&self, task: Task, from: usize) -> Option<usize> {
-        self.marks.next(task, from)
-    }
-
-    #[inline(always)]
-    pub(crate) fn next_sought(&self, search: Search, told: &ToldMarks, from: usize) -> Option<usize> {
-        self.marks.next_sought(search, told, from)
+    pub(crate) fn marks(&self, task: Task) -> &Marks {
+        self.marks.of(task)
     }
 }
 

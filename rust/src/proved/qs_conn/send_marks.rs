@@ -1,6 +1,5 @@
 // Made from crates/qs_conn/src/send_marks.rt by rust/erase; not edited by hand.
 use crate::proved::qs_conn::marks::Marks;
-use crate::proved::qs_conn::told_marks::ToldMarks;
 use crate::proved::qs_ranges::NoMemory;
 use crate::proved::qs_send::{SendHalf, SendState};
 use crate::shim::alloc::Global;
@@ -120,35 +119,6 @@ impl SendMarks {
         self.writable.set(index, is_writable);
         self.funded
             .set(index, is_writable && half.written() < half.limit());
-    }
-
-    /// Whether a half has a task.
-    #[inline(always)]
-    pub(crate) fn has(&self, task: Task, index: usize) -> bool {
-        self.of(task).has(index)
-    }
-
-    #[inline(always)]
-    pub(crate) fn may_have(&self, task: Task) -> bool {
-        self.of(task).may_have()
-    }
-
-    #[inline(always)]
-    pub(crate) fn next(&self, task: Task, from: usize) -> Option<usize> {
-        self.of(task).next(from)
-    }
-
-    #[inline(always)]
-    pub(crate) fn next_sought(&self, search: Search, told: &ToldMarks, from: usize) -> Option<usize> {
-        let marks = self.of(search.task);
-        if !search.is_told {
-            return marks.next_untold(marks, told, from);
-        }
-        let others = told.marks();
-        if !others.may_have() {
-            return None;
-        }
-        marks.next_both(others, from)
     }
 
     #[inline(always)]

@@ -1,7 +1,7 @@
 // Made from crates/qs_conn/src/endpoint/ended_news.rt by rust/erase; not edited by hand.
-use super::{Endpoint, is_uni, role_bit};
+use super::{Endpoint, role_bit};
 use crate::proved::qs_conn::marks::Marks;
-use crate::proved::qs_conn::places::{index_from, least_stream};
+use crate::proved::qs_conn::places::least_stream;
 use crate::proved::qs_conn::recv_marks::RecvTask;
 use crate::proved::qs_conn::told_streams::ToldStreams;
 use crate::proved::qs_wire::StreamId;
@@ -29,39 +29,12 @@ impl Endpoint {
         )
     }
 
-    // Apart, so that a caller pays for one look at the counts if no stream is over.
     #[inline(always)]
     fn next_ended_of(&self, stream_type: usize, told: &ToldStreams, from: u64) -> Option<u64> {
         debug_assert!(stream_type < 4);
         debug_assert!(from <= 1 << 62);
-        let (marks, _others) = self.ended_marks(stream_type);
-        if !marks.may_have_untold(told.of_type(stream_type)) {
-            return None;
-        }
-        let mut next = from;
-        while let Some(stream) = self.next_ended_marked(stream_type, told, next) {
-            if self.has_ended(stream) {
-                return Some(stream.value());
-            }
-            next = stream.value() + 1;
-        }
-        None
-    }
-
-    // None of the streams between is over.
-    #[inline(always)]
-    fn next_ended_marked(
-        &self,
-        stream_type: usize,
-        told: &ToldStreams,
-        from: u64,
-    ) -> Option<StreamId> {
-        debug_assert!(stream_type < 4);
-        debug_assert!(from <= 1 << 62);
         let (marks, others) = self.ended_marks(stream_type);
-        let first = index_from(stream_type, from);
-        let index = marks.next_untold(others, told.of_type(stream_type), first)?;
-        StreamId::new((index * 4 + stream_type) as u64)
+        marks.next_untold(others, told.of_type(stream_type), stream_type, from)
     }
 
     // Of a stream with one half its marks twice, so that the search is the same for all types.
@@ -76,16 +49,6 @@ impl Endpoint {
             (sending, sending)
         } else {
             (receiving, receiving)
-        }
-    }
-
-    fn has_ended(&self, stream: StreamId) -> bool {
-        if !is_uni(stream) {
-            self.core.recvs.has_ended(stream) && self.core.outbox.has_ended(stream)
-        } else if self.is_own(stream) {
-            self.core.outbox.has_ended(stream)
-        } else {
-            self.core.recvs.has_ended(stream)
         }
     }
 }

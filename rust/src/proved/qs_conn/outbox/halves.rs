@@ -1,7 +1,8 @@
 // Made from crates/qs_conn/src/outbox/halves.rt by rust/erase; not edited by hand.
 //! The sending halves of an end, by the type of the stream and by its index: one that is named, and searches.
 
-use crate::proved::qs_conn::places::{index_from, index_of, least_stream, type_of};
+use crate::proved::qs_conn::marks::Marks;
+use crate::proved::qs_conn::places::{index_of, least_stream, type_of};
 use crate::proved::qs_conn::send_lanes::{SendLanes, Setting};
 use crate::proved::qs_conn::send_marks::{Moves, Search, Task};
 use crate::proved::qs_conn::told_streams::ToldStreams;
@@ -37,10 +38,17 @@ pub(super) fn set(types: &mut [SendLanes; 4], stream: StreamId, setting: Setting
     }
 }
 
+/// The marks of the streams of a type, by index, whose half has a task.
+#[inline(always)]
+pub(super) fn marks(types: &[SendLanes; 4], task: Task, stream_type: usize) -> &Marks {
+    debug_assert!(stream_type < 4);
+    let lanes = &types[stream_type];
+    lanes.marks(task)
+}
+
 #[inline(always)]
 pub(super) fn has(types: &[SendLanes; 4], stream: StreamId, task: Task) -> bool {
-    let lanes = &types[type_of(stream)];
-    lanes.has(index_of(stream), task)
+    marks(types, task, type_of(stream)).has(index_of(stream))
 }
 
 #[inline(always)]
@@ -51,16 +59,16 @@ pub(super) fn half_of(types: &[SendLanes; 4], stream: StreamId) -> SendView<'_> 
 
 #[inline(always)]
 pub(super) fn may_have(types: &[SendLanes; 4], task: Task) -> bool {
-    if types[0].may_have(task) {
+    if marks(types, task, 0).may_have() {
         return true;
     }
-    if types[1].may_have(task) {
+    if marks(types, task, 1).may_have() {
         return true;
     }
-    if types[2].may_have(task) {
+    if marks(types, task, 2).may_have() {
         return true;
     }
-    types[3].may_have(task)
+    marks(types, task, 3).may_have()
 }
 
 /// The least number from one on of a stream whose half has a task. It stands apart, so that where no half has it a caller pays for the
@@ -69,28 +77,13 @@ pub(super) fn may_have(types: &[SendLanes; 4], task: Task) -> bool {
 pub(super) fn next_with(types: &[SendLanes; 4], task: Task, from: u64) -> Option<StreamId> {
     debug_assert!(from <= 1 << 62);
     least_stream(
-        next_of(types, task, 0, from),
-        next_of(types, task, 1, from),
-        next_of(types, task, 2, from),
-        next_of(types, task, 3, from),
+        marks(types, task, 0).next_stream(0, from),
+        marks(types, task, 1).next_stream(1, from),
+        marks(types, task, 2).next_stream(2, from),
+        marks(types, task, 3).next_stream(3, from),
     )
 }
 
-#[inline(always)]
-fn next_of(types: &[SendLanes; 4], task: Task, stream_type: usize, from: u64) -> Option<u64> {
-    debug_assert!(stream_type < 4);
-    debug_assert!(from <= 1 << 62);
-    let lanes = &types[stream_type];
-    if !lanes.may_have(task) {
-        return None;
-    }
-    match lanes.next_with(task, index_from(stream_type, from)) {
-        Some(index) => Some((index * 4 + stream_type) as u64),
-        None => None,
-    }
-}
-
-/// Of a type of which no half has a mark a caller pays for one look.
 #[inline(always)]
 pub(super) fn next_sought_of(
     types: &[SendLanes; 4],
@@ -99,12 +92,10 @@ pub(super) fn next_sought_of(
     stream_type: usize,
 ) -> Option<u64> {
     debug_assert!(stream_type < 4);
-    let lanes = &types[stream_type];
-    if !lanes.may_have(search.task) {
-        return None;
+    let marks = marks(types, search.task, stream_type);
+    let told = told.of_type(stream_type);
+    if search.is_told {
+        return marks.next_both(told.marks(), stream_type);
     }
-    match lanes.next_sought(search, told.of_type(stream_type), 0) {
-        Some(index) => Some((index * 4 + stream_type) as u64),
-        None => None,
-    }
+    marks.next_untold(marks, told, stream_type, 0)
 }

@@ -1,6 +1,6 @@
 // Made from crates/qs_conn/src/outbox/telling.rt by rust/erase; not edited by hand.
 use super::Outbox;
-use super::halves::{half_of, may_have, next_sought_of, next_with};
+use super::halves::{half_of, marks, may_have, next_sought_of, next_with};
 use crate::proved::qs_conn::marks::Marks;
 use crate::proved::qs_conn::places::least_stream;
 use crate::proved::qs_conn::send_marks::{Search, Task};
@@ -94,13 +94,12 @@ impl Outbox {
         )
     }
 
-    /// One without a mark isn't over, so a search passes it.
+    /// The marks of the streams of a type, by index, whose sending half is over.
     #[inline]
     pub(crate) fn ended_marks(&self, stream_type: usize) -> &Marks {
         debug_assert!(stream_type < 4);
         let _next = self.next;
-        let lanes = &self.types[stream_type];
-        lanes.ended_marks()
+        marks(&self.types, Task::Ended, stream_type)
     }
 
     /// Whatever the connection's limit says: that one holds all alike.

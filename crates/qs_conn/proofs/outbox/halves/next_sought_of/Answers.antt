@@ -1,20 +1,22 @@
-use Rattle.std.proofs.Common.{◌≡◌, false, get_or, arith, rules}
-use Rattle.qs_machine.specs.Tables.{table}
-use Rattle.qs_conn.specs.Tasks.{IsSoughtAt, has}
-use Rattle.qs_conn.proofs.Marked.{clear_at, none_on}
-use Rattle.std.proofs.lemmas.Bool.{both_ways}
-use Rattle.qs_conn.proofs.Hearing.{sought_some, sought_none}
+use Rattle.std.proofs.Common.{◌≡◌, Bool, List, true, sym, subst, ◌∙◌}
+use Rattle.qs_machine.specs.Heard.{is_told}
+use Rattle.qs_machine.specs.News.{IsHeld, IsLeast}
+use Rattle.qs_machine.specs.Sums.{tables_of}
+use Rattle.qs_machine.specs.Tables.{type_of}
+use Rattle.qs_conn.specs.Marks.{IsMarkedOf, both}
+use Rattle.qs_conn.specs.Tasks.{HasTask, has}
+use Rattle.qs_conn.proofs.Marked.{next_sought, next_untold}
 use Rattle.qs_conn.proofs.outbox.halves.next_sought_of.Goals as goal
 
-pub returns-in-Some-clause-least : goal.returns-in-Some-clause-least
-returns-in-Some-clause-least c = search (rules, sought_some)
+pub returns-then-search-clause-least : goal.returns-then-search-clause-least
+returns-then-search-clause-least c =
+    let t = tables_of c.args.types.now in
+    subst (λ (b : Bool). IsLeast (λ n. (type_of n ≡ c.args.stream_type) × (IsHeld (HasTask c.args.search.task) t n × (is_told c.args.told.now n ≡ b))) 0 c.next_both.result) (sym c.if-search.true)
+    (next_sought (has c.args.search.task) t c.marks-marks.result.now c.args.stream_type c.marks-marks.ensures true c.args.told.now 0 c.next_both.result
+    (subst (λ (ts : List Bool). IsLeast (IsMarkedOf (both c.marks-marks.result.now ts) c.args.stream_type) 0 c.next_both.result) (c.marks.ensures ∙ c.of_type-told.ensures) c.next_both.ensures.least))
 
-pub returns-in-None-clause-least : goal.returns-in-None-clause-least
-returns-in-None-clause-least c = search (rules, sought_none)
-
-pub returns-then-not-may_have-clause-least : goal.returns-then-not-may_have-clause-least
-returns-then-not-may_have-clause-least c =
-    let none : c.may_have.result ≡ false = grind (arith, c.if-not-may_have.true) in
-    let at = IsSoughtAt c.args.search (get_or c.args.types.now c.args.stream_type c.index-types-stream_type.result) (table c.args.told.now c.args.stream_type) in
-    sought_none c.args.search c.args.types.now c.args.told.now c.args.stream_type 0 0 c.index-types-stream_type.result c.requires.len c.requires.stream_type (omega (arith, c.requires.stream_type))
-    (none_on at 0 0 (clear_at at 0) (λ i ge p. both_ways (has c.args.search.task p.0.0) (c.may_have.ensures none i p.0.0 p.0.1) p.0.2))
+pub returns-clause-least : goal.returns-clause-least
+returns-clause-least c =
+    let t = tables_of c.args.types.now in
+    subst (λ (b : Bool). IsLeast (λ n. (type_of n ≡ c.args.stream_type) × (IsHeld (HasTask c.args.search.task) t n × (is_told c.args.told.now n ≡ b))) 0 c.next_untold.result) (sym c.if-search.false)
+    (next_untold (has c.args.search.task) t c.marks-marks.result.now c.args.stream_type c.marks-marks.ensures c.args.told.now 0 c.next_untold.result (rw c.of_type-told.ensures at c.next_untold.ensures.least))
