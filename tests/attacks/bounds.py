@@ -301,8 +301,8 @@ BOUNDS = {
         sizes=(64, 256, 1024),
         heap=340_000,
         heap_why="a half of each stream that isn't over, with a buffer or a ring, and 24 bytes of each half",
-        growth=0.67,
-        growth_why="one word of each half's marks for 64 streams; few streams cost less than they did",
-        count=920,
+        growth=0.81,
+        growth_why="one word of each half's marks for 64 streams, and so little beside that 64 streams cost half of what they did",
+        count=670,
     ),
 }

@@ -149,7 +149,7 @@ fn a_file_comes_with_its_type_and_length() {
     let text = std::fs::read(concat!(env!("CARGO_MANIFEST_DIR"), "/src/h3/session.rs")).unwrap();
     let len = text.len().to_string();
     let mut pair = Pair::new();
-    let got = pair.load("GET", "/src/h3/session%2ers", None);
+    let mut got = pair.load("GET", "/src/h3/session%2ers", None);
     assert_eq!(got.field(":status"), Some("200"));
     assert_eq!(
         got.field("content-type"),
@@ -157,9 +157,11 @@ fn a_file_comes_with_its_type_and_length() {
     );
     assert_eq!(got.field("content-length"), Some(len.as_str()));
     assert!(got.is_whole && got.body == text);
-    // A HEAD has the same fields and no body (RFC 9110, section 8.6).
+    // A HEAD has the same fields and no body (RFC 9110, section 8.6), each with the time at which it was made.
     let mut head = pair.load("HEAD", "/src/h3/session.rs", None);
     assert!(head.is_whole && head.body.is_empty());
+    assert!(got.fields.remove("date").is_some());
+    assert!(head.fields.remove("date").is_some());
     assert_eq!(head.fields, got.fields);
     head = pair.load("HEAD", "/none", None);
     assert_eq!(head.field(":status"), Some("404"));
