@@ -82,9 +82,6 @@ loses_less k o next p first is = subst (λ (x : Outgoing). length (pieces_in x.o
 
 -- A packet is declared lost
 
-abbrev by_record : (c : Option Closed) (x : Option (List Piece)) → Option LostFault
-by_record c x = first_refusal (refuse_if (is_some c) losing.Closed) (refuse_if (is_none x) losing.NotOutstanding)
-
 pub not_outstanding : (e : End) (k : ℕ) → is_some e.closed ≡ false → NoneEmpty e.outstanding → first_piece (fmap.get e.outstanding k) ≡ None → Some losing.NotOutstanding ≡ lose_refusal e k
 not_outstanding e k goes full first = grind (arith, nat_tests)
 

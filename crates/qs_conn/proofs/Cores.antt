@@ -52,7 +52,7 @@ use Rattle.qs_conn.specs.declared.due.Due.{Due}
 use Rattle.qs_conn.specs.declared.slot.Kind.{Kind}
 use Rattle.qs_conn.specs.Layers.{stop_to_tell}
 use Rattle.qs_conn.specs.Tasks.{IsFree, IsShort}
-use Rattle.qs_conn.specs.OwnCarried.{Kept, AreOwn, own_with, own_left}
+use Rattle.qs_conn.specs.OwnTold.{Kept, AreOwn, own_with, own_left}
 use Rattle.qs_conn.specs.Middle.{IsCore, IsAtRest, IsKept, KeepsStreams, IsFilling, FillsOn, HasMemory, end_of}
 use Rattle.qs_conn.specs.Filling.{slot_at, end_by, present_of, PutsItem, LeavesRest, LimitsFit, with_window, with_grant}
 use Rattle.qs_conn.specs.Settled.{AreNextWhere}

@@ -5,24 +5,20 @@ use Rattle.std.proofs.lemmas.Grind.{common_steps}
 use Rattle.std.proofs.Common.{◌≡◌, ◌≢◌, ℕ, zero, suc, ◌+◌, ◌<◌, ◌≤◌, ◌⊎◌, inl, inr, Bool, false, ◌&&◌, ◌||◌, List, [], ◌∷◌, ◌++◌, length, map, take, Some, refl, ap, sym, ◌∙◌, arith, subst, min, nat_le, nat_lt, eqb, get_or, slice_get, ◌-◌, ◌/◌, ◌%◌, ◌^◌, true, is_some, None, ◌==◌, unwrap_or, Option, Result, Ok, Err, cond}
 use Rattle.qs_conn.proofs.Untolds.{of_mapped}
 use Rattle.qs_conn.proofs.Marked.{begins_without, marks_fewer, marks_same, marks_set, marks_wider, noted_raised}
-use Rattle.std.proofs.lemmas.List.{append-nil, append_assoc, get_or-set_same, get_or_default, length-append, length-map, length-take, set-get_or}
+use Rattle.std.proofs.lemmas.List.{append-nil, append_assoc, get_or-set_same, get_or-set_other, get_or_default, length-append, length-map, length-take, set-get_or}
 use Rattle.std.proofs.lemmas.Option.{none-some, same_Some, slice_get_read, slice_get_within, slice_get-map, slice_get_cases}
 use Rattle.std.proofs.lemmas.Bool.Decides.{nat_tests}
-use Rattle.std.proofs.lemmas.Bool.{both_ways, cases_eq, cond_both}
+use Rattle.std.proofs.lemmas.Bool.{both_ways, cases_eq, cond_both, true≢false}
 use Rattle.std.proofs.Math.ListN.{set, length-set, set as set_list}
 use Rattle.std.proofs.Math.Seq.{take-append_seam}
 use Rattle.qs_ranges.specs.Numbers.{MAX_VARINT, contains-with_range, contains-without_range, numbers, missing_from}
 use Rattle.qs_recv.specs.Lane.{MAX_WINDOW, RecvLane, new_lane, step, raise, taken, take_stream, set_window, highest, noted, raise_answer, raised_limit}
 use Rattle.qs_recv.specs.declared.credit.Share.{Share}
-use Rattle.qs_conn.specs.declared.touches.Touches.{Touches}
-use Rattle.qs_conn.specs.declared.touches.Touched.{Touched}
 use Rattle.qs_conn.specs.declared.send_lanes.Setting.{Setting}
 use Rattle.qs_conn.specs.declared.send_lanes.Setting.TheVariants as settings
 use Rattle.qs_conn.specs.Edits.{after_set, OrStays, IsEdited, IsEditedIn}
-use Rattle.qs_conn.specs.RecvEdits.{IsCalm, wrapped, with_part, with_parts, added, IsTallyOf, AreKept}
-use Rattle.qs_conn.specs.Marks.{HasRoom, IsClearedFrom, IsWider}
-use Rattle.qs_conn.specs.declared.touches.Touched.TheVariants.{Nothing, Lane, Several}
-use Rattle.qs_conn.specs.Touches.{is_among, is_touched, IsSettled, AreSettled, IsTaken}
+use Rattle.qs_conn.specs.RecvEdits.{AreSettled, IsCalm, IsSettled, wrapped, with_part, with_parts, added, IsTallyOf, AreKept}
+use Rattle.qs_conn.specs.Marks.{HasRoom, IsClearedFrom, IsWider, is_marked, count_marked}
 use Rattle.std.specs.Prelude.{slice_set}
 use Rattle.std.specs.List.{range_with_len, sum_by}
 use Rattle.std.proofs.lemmas.List.FromFn.{map-range_with_len_more, length-map-range_with_len}
@@ -66,6 +62,9 @@ most t w = min MAX_VARINT (t + w)
 abbrev moves : ℕ → ℕ → ℕ → Share → Bool
 moves l t w share = nat_le (l + step share w) (most t w) || (eqb (most t w) MAX_VARINT && nat_lt l (most t w))
 
+rises_not : (l : RecvLane) → is_some (raise_answer l) ≡ false → IsSettled l
+rises_not l none = grind (arith, nat_tests)
+
 pub raised_twice : (l : RecvLane) → IsSettled (raise l)
 raised_twice l = grind (arith, nat_tests)
 
@@ -88,9 +87,9 @@ pub each_settled : (xs : List RecvLane) → ((i : ℕ) (l : RecvLane) → slice_
 each_settled [] all = refl
 each_settled (x ∷ xs) all = ap (λ y. y ∷ map raise xs) (settled_raise x (all 0 x refl)) ∙ ap (λ ys. x ∷ ys) (each_settled xs (λ i l at. all (suc i) l at))
 
--- no lane was touched
-pub none_raised : (t : Touches) (xs : List RecvLane) → AreSettled t xs → ((i : ℕ) → is_touched t i ≡ false) → map raise xs ≡ xs
-none_raised t xs settled none = each_settled xs (λ i l at. settled i l at (none i))
+-- no lane has a mark
+pub none_raised : (ms : List Bool) (xs : List RecvLane) → AreSettled ms xs → ((i : ℕ) → is_marked ms i ≡ false) → map raise xs ≡ xs
+none_raised ms xs settled none = each_settled xs (λ i l at. settled i l at (none i))
 
 pub raised_once : (xs : List RecvLane) → map raise (map raise xs) ≡ map raise xs
 raised_once [] = refl
@@ -108,17 +107,24 @@ get_same [] i y l at = absurd (none-some l at)
 get_same (x ∷ xs) zero y l at = (same_Some y l at, omega arith)
 get_same (x ∷ xs) (suc i) y l at = let (is, lt) = get_same xs i y l at in (is, omega (arith, lt))
 
--- a lane becomes another, and is touched where what was taken of it moved
-pub are_moved : (t new : Touches) (xs : List RecvLane) (i : ℕ) (x y : RecvLane) → i < length xs → x ≡ get_or xs i x → length xs ≤ length t.marks → IsCalm x y
-    → ((j : ℕ) → j < length t.marks → is_touched new j ≡ false → (is_touched t j ≡ false) × (j ≡ i → taken y ≡ taken x)) → AreSettled t xs → AreSettled new (set xs i y)
-are_moved t new xs i x y there at room calm touched each j l found free =
-    let in_xs : j < length xs = omega (arith, slice_get_within (set xs i y) j l found, length-set xs i y) in
-    let (was, still) = touched j (omega (arith, room, in_xs)) free in
+-- a lane becomes another: no more was taken of it, and its mark stays; or its mark tells whether its limit rises
+pub are_moved : (ms new : List Bool) (xs : List RecvLane) (i : ℕ) (x y : RecvLane) → i < length xs → x ≡ get_or xs i x → length xs ≤ length ms → IsCalm x y
+    → ((taken y ≡ taken x) × (new ≡ ms)) ⊎ (new ≡ set ms i (is_some (raise_answer y))) → AreSettled ms xs → AreSettled new (set xs i y)
+are_moved ms new xs i x y there at room calm how each j l found free =
     elim (cases_eq j i) [
       | inl e ↦
           (let (is, lt) = get_same xs i y l (ap (slice_get (set xs i y)) (sym e) ∙ found) in
-          subst IsSettled is (calm.settled (still e) (each i x (slice_get_read xs (length xs) i x refl lt at) (subst (λ k. is_touched t k ≡ false) e was))))
-      | inr ne ↦ each j l (sym (get_other xs i j y ne) ∙ found) was
+          let here : is_marked new i ≡ false = subst (λ k. is_marked new k ≡ false) e free in
+          subst IsSettled is (elim how [
+            | inl (same, now) ↦ calm.settled same (each i x (slice_get_read xs (length xs) i x refl lt at) (subst (λ k. is_marked k i ≡ false) now here))
+            | inr now ↦ rises_not y (sym (get_or-set_same ms i (is_some (raise_answer y)) false (omega (arith, lt, room))) ∙ subst (λ k. is_marked k i ≡ false) now here)
+          ]))
+      | inr ne ↦
+          each j l (sym (get_other xs i j y ne) ∙ found)
+          (elim how [
+            | inl (same, now) ↦ subst (λ k. is_marked k j ≡ false) now free
+            | inr now ↦ sym (get_or-set_other ms i j (is_some (raise_answer y)) false ne) ∙ subst (λ k. is_marked k j ≡ false) now free
+          ])
     ]
 
 -- lanes are opened
@@ -128,16 +134,11 @@ get_seam [] ys j l at = inr (j, at)
 get_seam (x ∷ xs) ys zero l at = inl at
 get_seam (x ∷ xs) ys (suc j) l at = get_seam xs ys j l at
 
-among_wider : (k : Touched) (ms now : List Bool) → IsWider ms now → (i : ℕ) → is_among k now i ≡ is_among k ms i
-among_wider Nothing ms now wide i = refl
-among_wider (Lane k) ms now wide i = refl
-among_wider Several ms now wide i = wide.same i
+pub are_wider : (ms new : List Bool) (xs : List RecvLane) → IsWider ms new → AreSettled ms xs → AreSettled new xs
+are_wider ms new xs wide each j l there free = each j l there (sym (wide.same j) ∙ free)
 
-pub are_wider : (t new : Touches) (xs : List RecvLane) → new.lanes ≡ t.lanes → IsWider t.marks new.marks → AreSettled t xs → AreSettled new xs
-are_wider t new xs lanes wide each j l there free = each j l there (sym (among_wider t.lanes t.marks new.marks wide j) ∙ ap (λ k. is_among k new.marks j) (sym lanes) ∙ free)
-
-are_next : (t : Touches) (xs : List RecvLane) (x : RecvLane) → IsSettled x → AreSettled t xs → AreSettled t (xs ++ x ∷ [])
-are_next t xs x settled each j l there free = elim (get_seam xs (x ∷ []) j l there) [ inl at ↦ each j l at free | inr (k, at) ↦ one k at ]
+are_next : (ms : List Bool) (xs : List RecvLane) (x : RecvLane) → IsSettled x → AreSettled ms xs → AreSettled ms (xs ++ x ∷ [])
+are_next ms xs x settled each j l there free = elim (get_seam xs (x ∷ []) j l there) [ inl at ↦ each j l at free | inr (k, at) ↦ one k at ]
   where
     one : (k : ℕ) → slice_get (x ∷ []) k ≡ Some l → IsSettled l
     one zero at = subst IsSettled (same_Some x l at) settled
@@ -151,8 +152,8 @@ get_taken (suc n) (x ∷ xs) (suc j) l at = get_taken n xs j l at
 get_taken _ _ _ l at = absurd (none-some l at)
 
 -- no lane has a limit to be raised once all were
-pub still_settled : (xs : List RecvLane) (t : Touches) → AreSettled t (map raise xs)
-still_settled xs t i l at free = of_mapped raise (slice_get xs i) IsSettled (λ x there. raised_twice x) l (sym (slice_get-map raise xs i) ∙ at)
+pub still_settled : (xs : List RecvLane) (ms : List Bool) → AreSettled ms (map raise xs)
+still_settled xs ms i l at free = of_mapped raise (slice_get xs i) IsSettled (λ x there. raised_twice x) l (sym (slice_get-map raise xs i) ∙ at)
 
 -- ---- One receiving lane among those of its type is edited; some are opened, or taken away.
 
@@ -165,14 +166,15 @@ module _ (xs : List RecvLane) (i : ℕ) (x y : RecvLane) (there : i < length xs)
   part_set : (f : RecvLane → ℕ) (t : ℕ) → f x ≤ 2 ^ 64 → t ≡ sum_by f xs % 2 ^ 64 → with_part t (f x) (f y) ≡ sum_by f (set xs i y) % 2 ^ 64
   part_set f t small is = part_moved (sum_by f xs) (sum_by f (set xs i y)) (f x) (f y) t small (ap (λ k. sum_by f (set xs i y) + k) (ap f at) ∙ sum_by-set f xs i y x there) is
 
-  pub edited : (t was part now : Tally) (touched next : Touches) (marks looked : RecvMarks) → AreKept xs t touched marks → was ≡ tally_of x → part ≡ tally_of y → now ≡ with_parts t was part → was.spent ≤ MAX_VARINT → IsPaid was → IsLawfulRecv y
-      → IsCalm x y → length next.marks ≡ length touched.marks → ((j : ℕ) → j < length touched.marks → is_touched next j ≡ false → (is_touched touched j ≡ false) × (j ≡ i → was.taken ≡ part.taken))
+  pub edited : (t was part now : Tally) (rising next : List Bool) (marks looked : RecvMarks) → AreKept xs t rising marks → was ≡ tally_of x → part ≡ tally_of y → now ≡ with_parts t was part → was.spent ≤ MAX_VARINT → IsPaid was → IsLawfulRecv y
+      → IsCalm x y → ((was.taken ≡ part.taken) × (next ≡ rising)) ⊎ (next ≡ set rising i (is_some (raise_answer y)))
       → ((k : RecvTask) → recv_marks_of looked k ≡ slice_set (recv_marks_of marks k) i (recv_has k y)) → AreKept (set xs i y) now next looked
-  edited t was part now touched next marks looked kept was_is part_is now_is small paid lawful calm room moved again =
+  edited t was part now rising next marks looked kept was_is part_is now_is small paid lawful calm moved again =
       let spent : highest x ≤ 2 ^ 64 = omega (arith, small, ap (λ (k : Tally). k.spent) was_is) in
       let took : taken x ≤ 2 ^ 64 = omega (arith, small, paid.moved, ap (λ (k : Tally). k.taken) was_is) in
       let kept_bytes : stored_on x ≤ 2 ^ 64 = omega (arith, small, paid.moved, ap (λ (k : Tally). k.stored) was_is) in
       let few : noted x ≤ 2 ^ 64 = omega (arith, small, paid.noted, ap (λ (k : Tally). k.noted) was_is) in
+      let len : length next ≡ length rising = elim moved [ inl (same, now) ↦ ap length now | inr now ↦ ap length now ∙ length-set rising i (is_some (raise_answer y)) ] in
       record {
         counted =
             now_is ∙ ap (λ k. with_parts t k part) was_is ∙ ap (with_parts t (tally_of x)) part_is
@@ -184,9 +186,9 @@ module _ (xs : List RecvLane) (i : ℕ) (x y : RecvLane) (there : i < length xs)
             ) refl;
         lawful = lawful_set xs i y lawful kept.lawful;
         settled =
-            are_moved touched next xs i x y there at (omega (arith, kept.room)) calm
-            (λ j lt free. let (was_free, same) = moved j lt free in (was_free, λ e. sym (ap (λ (k : Tally). k.taken) part_is) ∙ sym (same e) ∙ ap (λ (k : Tally). k.taken) was_is)) kept.settled;
-        room = rw (room, length-set) kept.room;
+            are_moved rising next xs i x y there at (omega (arith, kept.room)) calm
+            (elim moved [ inl (same, now) ↦ inl (sym (ap (λ (k : Tally). k.taken) part_is) ∙ sym same ∙ ap (λ (k : Tally). k.taken) was_is, now) | inr now ↦ inr now ]) kept.settled;
+        room = rw (len, length-set) kept.room;
         few = rw length-set kept.few;
         noted = λ k. rw (again k) (marks_set (recv_has k) xs (recv_marks_of marks k) (kept.noted k) i y there);
       }
@@ -230,33 +232,33 @@ summed ls k l m n len p q r s a_is b_is c_is d_is small t is = grind (arith, nat
 -- Lanes open
 
 -- memory was asked for more marks
-pub wider : (xs : List RecvLane) (t : Tally) (touched next : Touches) (marks now : RecvMarks) → next.lanes ≡ touched.lanes → IsWider touched.marks next.marks → ((k : RecvTask) → IsWider (recv_marks_of marks k) (recv_marks_of now k)) → AreKept xs t touched marks → AreKept xs t next now
-wider xs t touched next marks now lanes wide more h =
+pub wider : (xs : List RecvLane) (t : Tally) (rising next : List Bool) (marks now : RecvMarks) → IsWider rising next → ((k : RecvTask) → IsWider (recv_marks_of marks k) (recv_marks_of now k)) → AreKept xs t rising marks → AreKept xs t next now
+wider xs t rising next marks now wide more h =
     record {
       counted = h.counted;
       lawful = h.lawful;
-      settled = are_wider touched next xs lanes wide h.settled;
+      settled = are_wider rising next xs wide h.settled;
       room = omega (arith, h.room, wide.longer);
       few = h.few;
       noted = λ k. marks_wider (recv_has k) xs (recv_marks_of marks k) (h.noted k) (recv_marks_of now k) (more k);
     }
 
 -- one more opens, without a mark
-pub one_opened : (xs : List RecvLane) (t : Tally) (touched : Touches) (marks : RecvMarks) (w : ℕ) (share : Share) (i : ℕ) → i ≡ length xs → 1 ≤ w → w ≤ MAX_WINDOW → i < 2 ^ 60 → HasRoom (i + 1) touched.marks → ((k : RecvTask) → HasRoom (i + 1) (recv_marks_of marks k)) → AreKept xs t touched marks
-    → AreKept (xs ++ new_lane w share ∷ []) t touched marks
-one_opened xs t touched marks w share i at some small few room more h =
+pub one_opened : (xs : List RecvLane) (t : Tally) (rising : List Bool) (marks : RecvMarks) (w : ℕ) (share : Share) (i : ℕ) → i ≡ length xs → 1 ≤ w → w ≤ MAX_WINDOW → i < 2 ^ 60 → HasRoom (i + 1) rising → ((k : RecvTask) → HasRoom (i + 1) (recv_marks_of marks k)) → AreKept xs t rising marks
+    → AreKept (xs ++ new_lane w share ∷ []) t rising marks
+one_opened xs t rising marks w share i at some small few room more h =
     record {
       counted = h.counted ∙ ap wrapped (sym (tally_opened xs w share (0 ∷ [])));
       lawful = lawful_append xs (new_lane w share ∷ []) h.lawful (lawful_begun w share (0 ∷ []) some small);
-      settled = are_next touched xs (new_lane w share) (new_settled w share some small) h.settled;
+      settled = are_next rising xs (new_lane w share) (new_settled w share some small) h.settled;
       room = omega (arith, at, room, length-append xs (new_lane w share ∷ []));
       few = omega (arith, at, few, length-append xs (new_lane w share ∷ []));
       noted = λ k. marks_same (recv_has k) xs (recv_marks_of marks k) (h.noted k) i (new_lane w share) at (more k) (begins_without k w share);
     }
 
 -- some lanes leave, which nothing came for
-pub fewer : (n : ℕ) (xs : List RecvLane) (t : Tally) (touched : Touches) (marks left : RecvMarks) → tally_on (take n xs) ≡ tally_on xs → ((k : RecvTask) → IsClearedFrom n (recv_marks_of marks k) (recv_marks_of left k)) → AreKept xs t touched marks → AreKept (take n xs) t touched left
-fewer n xs t touched marks left same cleared h =
+pub fewer : (n : ℕ) (xs : List RecvLane) (t : Tally) (rising : List Bool) (marks left : RecvMarks) → tally_on (take n xs) ≡ tally_on xs → ((k : RecvTask) → IsClearedFrom n (recv_marks_of marks k) (recv_marks_of left k)) → AreKept xs t rising marks → AreKept (take n xs) t rising left
+fewer n xs t rising marks left same cleared h =
     record {
       counted = h.counted ∙ ap wrapped (sym same);
       lawful = lawful_take n xs h.lawful;
@@ -271,8 +273,8 @@ pub tally_back : (w : ℕ) (share : Share) (xs now : List RecvLane) (n count : �
 tally_back w share xs now n count is at = rw (is, at) (ap tally_on (take-append_seam xs _) ∙ sym (tally_opened xs w share _))
 
 -- all limits are raised
-pub raised : (xs : List RecvLane) (t : Tally) (touched next : Touches) (marks : RecvMarks) → length next.marks ≡ length touched.marks → AreKept xs t touched marks → AreKept (map raise xs) t next marks
-raised xs t touched next marks room h = grind (arith, nat_tests, tally_raised, lawful_raised, still_settled, length-map, noted_raised)
+pub raised : (xs : List RecvLane) (t : Tally) (rising next : List Bool) (marks : RecvMarks) → length next ≡ length rising → AreKept xs t rising marks → AreKept (map raise xs) t next marks
+raised xs t rising next marks room h = grind (arith, nat_tests, tally_raised, lawful_raised, still_settled, length-map, noted_raised)
 
 -- Parts of any kind open one after the other
 
@@ -302,16 +304,16 @@ module _ {X : Type 0} (xs : List X) (f : ℕ → X) (now : List X) (i count : �
 pub not_raised : (l : RecvLane) → ((v : ℕ) → raise_answer l ≡ Some v → ⊥) → raise l ≡ l
 not_raised l none = cond_both (nat_lt l.limit (raised_limit l)) (Some (raised_limit l)) None (λ o. ((v : ℕ) → o ≡ Some v → ⊥) → raise l ≡ l) (λ up some. absurd (some (raised_limit l) refl)) (λ stays _. settled_raise l (grind (arith, nat_tests, stays))) none
 
--- Lanes are raised one after the other, as they were touched
+-- Lanes are raised one after the other, as they are marked
 
--- what stands between: the lanes that were touched and those that were raised are raised at the end, and all others are settled
-pub record AreRaisedSoFar (xs now : List RecvLane) (t : Touches) : Type 0 where
+-- what stands between: the lanes with a mark and those that were raised are raised at the end, and all others are settled
+pub record AreRaisedSoFar (xs now : List RecvLane) (ms : List Bool) : Type 0 where
   pub raised : map raise now ≡ map raise xs
   pub len : length now ≡ length xs
-  pub settled : AreSettled t now
+  pub settled : AreSettled ms now
 
-pub none_yet : (xs : List RecvLane) (t : Touches) → AreSettled t xs → AreRaisedSoFar xs xs t
-none_yet xs t settled = record { raised = refl; len = refl; settled = settled }
+pub none_yet : (xs : List RecvLane) (ms : List Bool) → AreSettled ms xs → AreRaisedSoFar xs xs ms
+none_yet xs ms settled = record { raised = refl; len = refl; settled = settled }
 
 raise_again : (xs : List RecvLane) (k : ℕ) (x : RecvLane) → slice_get xs k ≡ Some x → map raise (set xs k (raise x)) ≡ map raise xs
 raise_again [] k x at = absurd (none-some x at)
@@ -319,8 +321,8 @@ raise_again (z ∷ xs) zero x at = ap (λ l. l ∷ map raise xs) (settled_raise 
 raise_again (z ∷ xs) (suc k) x at = ap (λ ls. raise z ∷ ls) (raise_again xs k x at)
 
 -- one lane more is raised
-pub one_more : (xs ys now : List RecvLane) (t new : Touches) (k : ℕ) → AreRaisedSoFar xs ys t → k < length ys → IsTaken t (Some k) new → now ≡ changed ys k raise (slice_get ys k) → AreRaisedSoFar xs now new
-one_more xs ys now t new k far lt taken is =
+pub one_more : (xs ys now : List RecvLane) (ms : List Bool) (k : ℕ) → AreRaisedSoFar xs ys ms → k < length ys → now ≡ changed ys k raise (slice_get ys k) → AreRaisedSoFar xs now (set ms k false)
+one_more xs ys now ms k far lt is =
     elim (slice_get_cases ys k).1 [
       | inl (x, in_list, there, read) ↦
           (let at : now ≡ set ys k (raise x) = is ∙ ap (changed ys k raise) there in
@@ -332,19 +334,30 @@ one_more xs ys now t new k far lt taken is =
                 λ j l in_now free.
                 elim (cases_eq j k) [
                   | inl e ↦ subst IsSettled (get_same ys k (raise x) l (ap (slice_get (set ys k (raise x))) (sym e) ∙ in_now)).0 (raised_twice x)
-                  | inr ne ↦ elim (taken j free) [ inl e ↦ absurd (ne e) | inr was ↦ far.settled j l (sym (get_other ys k j (raise x) ne) ∙ in_now) was ]
+                  | inr ne ↦ far.settled j l (sym (get_other ys k j (raise x) ne) ∙ in_now) (sym (get_or-set_other ms k j false false ne) ∙ free)
                 ];
           }))
       | inr (past, none) ↦ absurd (omega (arith, lt, past))
     ]
 
--- a touched index that isn't one
-pub past_more : (xs ys : List RecvLane) (t new : Touches) (k : ℕ) → AreRaisedSoFar xs ys t → length ys ≤ k → IsTaken t (Some k) new → AreRaisedSoFar xs ys new
-past_more xs ys t new k far past taken = grind (arith, nat_tests, slice_get_within)
+-- a mark past the lanes
+pub past_more : (xs ys : List RecvLane) (ms : List Bool) (k : ℕ) → AreRaisedSoFar xs ys ms → length ys ≤ k → AreRaisedSoFar xs ys (set ms k false)
+past_more xs ys ms k far past =
+    record {
+      raised = far.raised;
+      len = far.len;
+      settled = λ j l there free. far.settled j l there (sym (get_or-set_other ms k j false false (λ e. omega (arith, e, past, slice_get_within ys j l there))) ∙ free);
+    }
 
--- no lane is left
-pub all_raised : (xs now : List RecvLane) (t : Touches) → AreRaisedSoFar xs now t → ((i : ℕ) → is_touched t i ≡ false) → now ≡ map raise xs
-all_raised xs now t far none = sym (none_raised t now far.settled none) ∙ far.raised
+-- no mark is left
+pub all_raised : (xs now : List RecvLane) (ms : List Bool) → AreRaisedSoFar xs now ms → ((i : ℕ) → is_marked ms i ≡ false) → now ≡ map raise xs
+all_raised xs now ms far none = sym (none_raised ms now far.settled none) ∙ far.raised
+
+pub count_fewer : (ms : List Bool) (i : ℕ) → is_marked ms i ≡ true → count_marked (set ms i false) + 1 ≡ count_marked ms
+count_fewer (true ∷ ms) zero is = refl
+count_fewer (true ∷ ms) (suc i) is = ap (λ k. k + 1) (count_fewer ms i is)
+count_fewer (false ∷ ms) (suc i) is = count_fewer ms i is
+count_fewer _ _ is = absurd (true≢false (sym is))
 
 -- ---- Sending halves are opened and edited; some are over.
 

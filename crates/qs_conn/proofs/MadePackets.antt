@@ -31,7 +31,7 @@ use Rattle.qs_machine.specs.Seen.{Seen, Stream, seen, seen_all, asks_ack, any_as
 use Rattle.qs_machine.specs.Lawful.{Fills, frame_put, pieces_so_far}
 use Rattle.qs_machine.specs.Outgoing.{with_pending, AreBelow, Outgoing, HasSending, ChunkFound, sent_sum, item_put_out}
 use Rattle.qs_machine.proofs.Carried.{get_new}
-use Rattle.qs_conn.specs.Filling.{pieces_at, data_or, last_data, InPacket, end_by, PackedBy, IsWished, IsAckLeft, frame_of_item, IsCurrentIn, PutsItem, Begun, Packed, Passed, HasPassedTo, and_slot, IsPassed, Stage, all_items, HasSpare, HasOneSpare, slot_at, slot_of}
+use Rattle.qs_conn.specs.Filling.{pieces_at, data_or, last_data, InPacket, end_by, PackedBy, IsWished, IsAckLeft, frame_of_item, IsCurrentIn, PutsItem, Begun, Packed, slot_place, slot_past, IsPassed, Stage, all_items, HasSpare, HasOneSpare, slot_at, slot_of}
 use Rattle.std.specs.Prelude.{Err, if◌then◌else◌, unwrap_or}
 use Rattle.qs_wire.specs.Grammar.{canonical_all, Fits, canonical}
 use Rattle.qs_ranges.specs.Numbers.{MAX_VARINT, NumberSet, covers, end_of as end_of_run}
@@ -47,7 +47,7 @@ use Rattle.qs_machine.specs.Filling.{IsAsked, IsWanted, WantedGoes, HasWanted, G
 use Rattle.qs_machine.specs.InOrder.{AreInOrder, NothingStarves, NoItemStarves}
 use Rattle.qs_conn.specs.declared.middle.Core.{Core}
 use Rattle.qs_conn.specs.Middle.{end_of, IsCore, IsStill, HasMemory, HoldsAtMost, own_items}
-use Rattle.qs_conn.proofs.Stages.{packed_same, packed_none, packed_asks, packed_made, packed_some, goes_next, goes_alone, begun_more, begun_item, begun_too_long}
+use Rattle.qs_conn.proofs.Stages.{packed_same, packed_none, packed_asks, packed_made, packed_some, passed_slot, goes_next, goes_alone, begun_more, begun_item, begun_too_long}
 use Rattle.qs_conn.proofs.Flows.{within_goes, two, ties_of, none_goes, chunk_goes, Allowed}
 use Rattle.qs_send.specs.declared.piece.Item.{Item}
 use Rattle.qs_conn.specs.declared.slot.Slot.{Slot}
@@ -66,7 +66,7 @@ use Rattle.qs_send.specs.declared.piece.Item.TheVariants.{MaxData, MaxStreams, D
 use Rattle.qs_conn.specs.declared.due.Due.{Due}
 use Rattle.qs_conn.specs.declared.slot.Kind.{Kind}
 use Rattle.qs_conn.specs.Tasks.{IsQuietAt}
-use Rattle.qs_conn.specs.OwnCarried.{Kept}
+use Rattle.qs_conn.specs.OwnTold.{Kept}
 use Rattle.qs_conn.proofs.Hearing.{no_goes}
 
 -- How many of the first numbers have a flag
@@ -534,7 +534,7 @@ module _ (v old : End) (same : v ≡ old) (new_c : Core) (want : Fill) (room : �
 
 -- ---- Items are put into a packet that is in a slice.
 
-module _ (wish : Wish) (room : ℕ) (old : End) (text : List ℕ) (e : End) (b : Bool) (P Q : Passed) where
+module _ (wish : Wish) (room : ℕ) (old : End) (text : List ℕ) (e : End) (b : Bool) (P Q : ℕ × ℕ) where
   pub stage_more : AddsIdle e (IsPassed P) (IsPassed Q) → Stage wish room old text e b P → Stage wish room old text e b Q
   stage_more adds = grind (arith, nat_tests, begun_more)
 
@@ -542,16 +542,16 @@ module _ (wish : Wish) (room : ℕ) (old : End) (text : List ℕ) (e : End) (b :
   pub stage_full : b ≡ true → Stage wish room old text e b P → Stage wish room old text e b Q
   stage_full is s = rw is (rw is at s)
 
-pub stage_put : (wish : Wish) (room : ℕ) (old : End) (t : Limits) (recvs : Tables RecvLane) (o new : Outgoing) (e : End) (before after : List ℕ) (len end : ℕ) (b full : Bool) (P : Passed) (s : Slot) (i : Item) →
-    b ≡ false → room ≡ length before → HasPassedTo P s → len ≤ length before → IsCurrentIn (end_by t recvs o e) s (Some i) → (IsCovered (end_by t recvs o e) i → ⊥) → Fits (frame_of_item i) → PutsItem i before len o after end new full →
-    Stage wish room old (take len before) (end_by t recvs o e) b P → Stage wish room old (take end after) (end_by t recvs new e) full (and_slot P s)
-stage_put wish room old t recvs o new e before after len end b full P s i is at passed le c free fits puts st = go full puts (rw is at st)
+pub stage_put : (wish : Wish) (room : ℕ) (old : End) (t : Limits) (recvs : Tables RecvLane) (o new : Outgoing) (e : End) (before after : List ℕ) (len end : ℕ) (b full : Bool) (s : Slot) (i : Item) →
+    b ≡ false → room ≡ length before → len ≤ length before → IsCurrentIn (end_by t recvs o e) s (Some i) → (IsCovered (end_by t recvs o e) i → ⊥) → Fits (frame_of_item i) → PutsItem i before len o after end new full →
+    Stage wish room old (take len before) (end_by t recvs o e) b (slot_place s) → Stage wish room old (take end after) (end_by t recvs new e) full (slot_past s)
+stage_put wish room old t recvs o new e before after len end b full s i is at le c free fits puts st = go full puts (rw is at st)
   where
-    go : (full : Bool) → PutsItem i before len o after end new full → Begun wish room old (take len before) (end_by t recvs o e) (IsPassed P) → Stage wish room old (take end after) (end_by t recvs new e) full (and_slot P s)
+    go : (full : Bool) → PutsItem i before len o after end new full → Begun wish room old (take len before) (end_by t recvs o e) (IsPassed (slot_place s)) → Stage wish room old (take end after) (end_by t recvs new e) full (slot_past s)
     go true (same, text, out, long) st =
-        let full : (first : ℕ) → Packed first wish room old (take len before) (end_by t recvs o e) wish.want.most_bytes = begun_too_long wish room old (take len before) (end_by t recvs o e) (IsPassed P) st i fits (omega (arith, length-take-le len before le, at)) (omega (arith, length-take-le len before le, at, long)) in
+        let full : (first : ℕ) → Packed first wish room old (take len before) (end_by t recvs o e) wish.want.most_bytes = begun_too_long wish room old (take len before) (end_by t recvs o e) (IsPassed (slot_place s)) st i fits (omega (arith, length-take-le len before le, at)) (omega (arith, length-take-le len before le, at, long)) in
         rw (same, text, out) full
-    go false (text, out) st = rw (text, out, end_put t recvs o e i) (begun_item wish room old (take len before) (end_by t recvs o e) (IsPassed P) st s i c passed free fits)
+    go false (text, out) st = rw (text, out, end_put t recvs o e i) (begun_item wish room old (take len before) (end_by t recvs o e) (IsPassed (slot_place s)) st s i c (IsPassed (slot_past s)) (λ t lower. lower) (passed_slot s) free fits)
 
 -- A text of two bytes or more
 
@@ -601,16 +601,17 @@ no_fault e n offset bytes fin state credit same = ap (λ o. or_else o (or_else (
 -- Control items
 
 -- what was found stays found
-pub tells_found : (e : End) (b : Bool) (P Q : Passed) → b ≡ true → TellsDue b e P → TellsDue true e Q
+pub tells_found : (e : End) (b : Bool) (P Q : ℕ × ℕ) → b ≡ true → TellsDue b e P → TellsDue true e Q
 tells_found e b P Q is found = rw is at found
 
 -- other slots, where of those that are new all that is current was told
-pub tells_more : (e : End) (b : Bool) (P Q : Passed) → AddsIdle e (IsPassed P) (IsPassed Q) → TellsDue b e P → TellsDue b e Q
+pub tells_more : (e : End) (b : Bool) (P Q : ℕ × ℕ) → AddsIdle e (IsPassed P) (IsPassed Q) → TellsDue b e P → TellsDue b e Q
 tells_more e b P Q adds found = grind (arith, nat_tests)
 
 -- a slot with an item
-pub tells_item : (e : End) (P : Passed) (s : Slot) (i : Item) (covered : Bool) → IsCurrentIn e s (Some i) → (covered ≡ true → IsCovered e i) → (covered ≡ false → IsCovered e i → ⊥) → TellsDue false e P → TellsDue (not covered) e (and_slot P s)
-tells_item e P s i covered c told free before = grind (arith, nat_tests)
+pub tells_item : (e : End) (s : Slot) (i : Item) (covered : Bool) → IsCurrentIn e s (Some i) → (covered ≡ true → IsCovered e i) → (covered ≡ false → IsCovered e i → ⊥) → TellsDue false e (slot_place s) → TellsDue (not covered) e (slot_past s)
+tells_item e s i true c told free before = λ j p due. elim (passed_slot s (slot_of j) p) [ inl was ↦ before j was due | inr is ↦ due.1 (subst (IsCovered e) (sym (c.2 j is due.0)) (told refl)) ]
+tells_item e s i false c told free before = (i, (c.0, free refl))
 
 -- all of them
 pub tells_all : (e : End) (b : Bool) → TellsDue b e all_items → Tells b ((i : Item) × IsDueItem e i)

@@ -233,9 +233,6 @@ both_self [] = refl
 both_self (true ∷ ms) = ap (λ xs. true ∷ xs) (both_self ms)
 both_self (false ∷ ms) = ap (λ xs. false ∷ xs) (both_self ms)
 
-pub next_self : (ms ts : List Bool) (from : ℕ) (r : Option ℕ) → IsNextMark (untold (both ms ms) ts) from r → IsNextMark (untold ms ts) from r
-next_self ms ts from r h = subst (λ xs. IsNextMark (untold xs ts) from r) (both_self ms) h
-
 -- a mark is left only where there was one, and none was told
 pub left_at : (ms ts : List Bool) (i : ℕ) → is_marked (untold ms ts) i ≡ true → (is_marked ms i ≡ true) × (is_marked ts i ≡ false)
 left_at ms ts i is = let (one, free) = and_parts (is_marked ms i) (not (is_marked ts i)) (sym (untold_is ms ts i) ∙ is) in (one, not-true (is_marked ts i) free)
@@ -456,9 +453,6 @@ cut_alike ms bs now n same cleared j = elim (cases_lt j n) [
 module _ {X : Type 0} (p : X → Bool) (xs : List X) (ms : List Bool) (are : AreMarksFor p xs ms) where
   pub mark_of : (i : ℕ) (x : X) → i < length xs → x ≡ get_or xs i x → is_marked ms i ≡ p x
   mark_of i x there at = are.tell i ∙ get_or-map p xs i x false there ∙ ap p (sym at)
-
-  pub mark_at : (i : ℕ) (x : X) → slice_get xs i ≡ Some x → is_marked ms i ≡ p x
-  mark_at i x at = mark_of i x (slice_get_within xs i x at) (sym (get_or_from_slice_get xs i x x at))
 
   -- the next part has no mark yet
   pub unmarked_next : (n : ℕ) → n ≡ length xs → is_marked ms n ≡ false

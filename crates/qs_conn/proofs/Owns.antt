@@ -42,7 +42,7 @@ use Rattle.qs_conn.specs.Runs.{held_out}
 use Rattle.std.proofs.Math.ListN.{set}
 use Rattle.std.proofs.lemmas.List.{length-set, get_or-set_same, get_or-set_other, get_or-replicate}
 use Rattle.qs_wire.specs.declared.stream_id.Dir.TheVariants.{Bidi, Uni}
-use Rattle.qs_conn.specs.OwnCarried.{Kept, own_place, own_value, present_at, kept_at, has_own, own_with, own_without, own_left, WasTold, IsOwn, AreOwn}
+use Rattle.qs_conn.specs.OwnTold.{Kept, own_place, own_value, present_at, kept_at, has_own, own_with, own_without, own_left, WasTold, IsOwn, AreOwn}
 
 -- Whether an item is covered
 

@@ -14,7 +14,7 @@ use Rattle.qs_machine.specs.InOrder.{IsLower, item_place}
 use Rattle.qs_conn.specs.declared.slot.Slot.{Slot}
 use Rattle.qs_conn.specs.declared.slot.Kind.{Kind}
 use Rattle.qs_wire.specs.declared.stream_id.Dir.TheVariants.{Bidi, Uni}
-use Rattle.qs_conn.specs.Filling.{slot_of, slot_at, slot_place, kind_place, Passed, and_slot, and_kind, and_below, all_items, IsPassed, HasPassedTo, HasPassedKinds, frame_of_item, IsWished, IsAckLeft, InPacket, IsAckText, Begun, no_slot, IsCurrentIn, HasWished, Framed, Content, Packed}
+use Rattle.qs_conn.specs.Filling.{slot_of, slot_at, slot_place, slot_past, kind_past, all_items, IsPassed, frame_of_item, IsWished, IsAckLeft, InPacket, IsAckText, Begun, no_slot, IsCurrentIn, HasWished, Framed, Content, Packed}
 use Rattle.qs_conn.specs.Marks.{IsIdle, AddsIdle}
 use Rattle.std.specs.List.{AllByRecursion}
 use Rattle.std.proofs.lemmas.List.{length-append, length-take-le, take-append-drop, drop_at, map-append, append-nil, length-reverse, take_all}
@@ -61,37 +61,6 @@ use Rattle.std.proofs.Math.Bool.{or-false}
 pub place_of_item : (i : Item) → slot_place (slot_of i) ≡ item_place i
 place_of_item i = grind (arith, nat_tests)
 
--- One kind after the other
-
--- all slots of a kind more
-pub kinds_kind : (P : Passed) (kind : Kind) → HasPassedKinds P (kind_place kind) → HasPassedKinds (and_kind P kind) (kind_place kind + 1)
-kinds_kind P kinds.ResetStream before s lt = grind (arith, lt)
-kinds_kind P _ before s lt = grind (arith, lt)
-
-pub kinds_blocked : (P : Passed) → HasPassedKinds P 5 → HasPassedKinds (and_slot P slots.DataBlocked) 6
-kinds_blocked P before s lt = grind (arith, lt)
-
--- One slot after the other
-
--- the first slot of a kind
-pub passed_first : (P : Passed) (slot : Slot) → (slot_place slot).1 ≡ 0 → HasPassedKinds P (slot_place slot).0 → HasPassedTo P slot
-passed_first P slot first before s lower = grind (arith, lower)
-
--- the second one
-pub passed_second : (P : Passed) → HasPassedKinds P 7 → HasPassedTo (and_slot P (slots.StreamsBlocked Bidi)) (slots.StreamsBlocked Uni)
-passed_second P before s lower = grind (arith, lower)
-
--- the slot of a stream, where those of lower streams were passed
-pub passed_below : (P : Passed) (kind : Kind) (n : ℕ) (slot : Slot) → slot ≡ slot_at kind n → HasPassedKinds P (kind_place kind) → HasPassedTo (and_below P kind n) slot
-passed_below P kind n slot is before s lower = go kind before s (rw is at lower)
-  where
-    go : (kind : Kind) → HasPassedKinds P (kind_place kind) → (s : Slot) → IsLower (slot_place s) (slot_place (slot_at kind n)) → IsPassed (and_below P kind n) s
-    go kinds.ResetStream before (slots.ResetStream m) lower = inr (m, grind (arith), refl)
-    go kinds.StopSending before (slots.StopSending m) lower = inr (m, grind (arith), refl)
-    go kinds.MaxStreamData before (slots.MaxStreamData m) lower = inr (m, grind (arith), refl)
-    go kinds.StreamDataBlocked before (slots.StreamDataBlocked m) lower = inr (m, grind (arith), refl)
-    go kind before s lower = inl (before s (grind (arith)))
-
 -- each item has a slot that is passed
 pub passed_all : (i : Item) → IsPassed all_items (slot_of i)
 passed_all (MaxStreams Bidi m) = grind arith
@@ -100,33 +69,49 @@ passed_all (StreamsBlocked Bidi m) = grind arith
 passed_all (StreamsBlocked Uni m) = grind arith
 passed_all _ = grind arith
 
+-- and no slot before the first place
+none_before : (s : Slot) → IsPassed no_slot s → ⊥
+none_before s lower = omega (arith, lower)
+
+-- no slot lies between one and the next place
+pub passed_slot : (slot s : Slot) → IsPassed (slot_past slot) s → IsPassed (slot_place slot) s ⊎ (s ≡ slot)
+passed_slot slot s lower = grind (arith, nat_tests)
+
+-- the slots of a kind that come before no more than those below a number
+passed_kind : (kind : Kind) (from : ℕ) (s : Slot) → IsPassed (kind_past kind) s → IsPassed (slot_place (slot_at kind from)) s ⊎ ((n : ℕ) × (from ≤ n) × (s ≡ slot_at kind n))
+passed_kind kinds.ResetStream from (slots.ResetStream m) lower = elim (cases_lt m from) [ inl below ↦ inl (inr (refl, below)) | inr ge ↦ inr (m, ge, refl) ]
+passed_kind kinds.StopSending from (slots.StopSending m) lower = elim (cases_lt m from) [ inl below ↦ inl (inr (refl, below)) | inr ge ↦ inr (m, ge, refl) ]
+passed_kind kinds.MaxStreamData from (slots.MaxStreamData m) lower = elim (cases_lt m from) [ inl below ↦ inl (inr (refl, below)) | inr ge ↦ inr (m, ge, refl) ]
+passed_kind kinds.StreamDataBlocked from (slots.StreamDataBlocked m) lower = elim (cases_lt m from) [ inl below ↦ inl (inr (refl, below)) | inr ge ↦ inr (m, ge, refl) ]
+passed_kind kind from s lower = inl (grind (arith))
+
 -- Slots of which all that is current was told
 
-pub adds_slot : (e : End) (P : Passed) (s : Slot) → IsIdle e s → AddsIdle e (IsPassed P) (IsPassed (and_slot P s))
-adds_slot e P s idle t p = elim p [ inl was ↦ inl was | inr is ↦ inr (subst (IsIdle e) (sym is) idle) ]
+pub adds_slot : (e : End) (slot : Slot) → IsIdle e slot → AddsIdle e (IsPassed (slot_place slot)) (IsPassed (slot_past slot))
+adds_slot e slot idle s p = elim (passed_slot slot s p) [ inl was ↦ inl was | inr is ↦ inr (subst (IsIdle e) (sym is) idle) ]
 
-module _ (e : End) (P : Passed) (kind : Kind) (from : ℕ) where
+module _ (e : End) (kind : Kind) (from : ℕ) where
+  -- those of all further streams
+  pub adds_kind : ((n : ℕ) → from ≤ n → IsIdle e (slot_at kind n)) → AddsIdle e (IsPassed (slot_place (slot_at kind from))) (IsPassed (kind_past kind))
+  adds_kind idle s p = elim (passed_kind kind from s p) [ inl was ↦ inl was | inr (n, ge, at) ↦ inr (subst (IsIdle e) (sym at) (idle n ge)) ]
+
   -- those of streams up to a number
-  pub adds_below : (to : ℕ) → ((n : ℕ) → from ≤ n → n < to → IsIdle e (slot_at kind n)) → AddsIdle e (IsPassed (and_below P kind from)) (IsPassed (and_below P kind to))
-  adds_below to idle s (inl was) = inl (inl was)
-  adds_below to idle s (inr (n, lt, at)) = elim (cases_lt n from) [ inl below ↦ inl (inr (n, below, at)) | inr ge ↦ inr (subst (IsIdle e) (sym at) (idle n ge lt)) ]
+  pub adds_below : (to : ℕ) → ((n : ℕ) → from ≤ n → n < to → IsIdle e (slot_at kind n)) → AddsIdle e (IsPassed (slot_place (slot_at kind from))) (IsPassed (slot_place (slot_at kind to)))
+  adds_below to idle s p =
+      elim (passed_kind kind from s (within kind to s p)) [ inl was ↦ inl was | inr (n, ge, at) ↦ inr (subst (IsIdle e) (sym at) (idle n ge (below kind to n (subst (IsPassed (slot_place (slot_at kind to))) at p)))) ]
+    where
+      within : (kind : Kind) (to : ℕ) (s : Slot) → IsPassed (slot_place (slot_at kind to)) s → IsPassed (kind_past kind) s
+      within kind to s p = grind (arith, nat_tests)
 
-  -- and those of all further streams
-  pub adds_kind : ((n : ℕ) → from ≤ n → IsIdle e (slot_at kind n)) → AddsIdle e (IsPassed (and_below P kind from)) (IsPassed (and_kind P kind))
-  adds_kind idle s (inl was) = inl (inl was)
-  adds_kind idle s (inr (n, at)) = elim (cases_lt n from) [ inl below ↦ inl (inr (n, below, at)) | inr ge ↦ inr (subst (IsIdle e) (sym at) (idle n ge)) ]
+      below : (kind : Kind) (to n : ℕ) → IsPassed (slot_place (slot_at kind to)) (slot_at kind n) → n < to
+      below kind to n p = grind (arith, nat_tests)
 
--- or those of all streams
-pub adds_none : (e : End) (P : Passed) (kind : Kind) → ((n : ℕ) → IsIdle e (slot_at kind n)) → AddsIdle e (IsPassed P) (IsPassed (and_kind P kind))
-adds_none e P kind idle s p = elim p [ inl was ↦ inl was | inr (n, at) ↦ inr (subst (IsIdle e) (sym at) (idle n)) ]
-
--- as the walk over a kind begins
-pub adds_first : (e : End) (P : Passed) (kind : Kind) → AddsIdle e (IsPassed P) (IsPassed (and_below P kind 0))
-adds_first e P kind s p = elim p [ inl was ↦ inl was | inr (n, lt, at) ↦ absurd (omega (arith, lt)) ]
-
--- below the next number
-pub adds_next : (e : End) (P : Passed) (kind : Kind) (n m : ℕ) (slot : Slot) → slot ≡ slot_at kind n → m ≡ n → AddsIdle e (IsPassed (and_slot (and_below P kind n) slot)) (IsPassed (and_below P kind (m + 1)))
-adds_next e P kind n m slot is next s h = grind (arith, nat_tests)
+-- the slot of the next stream
+pub past_at : (kind : Kind) (n : ℕ) (slot : Slot) → slot ≡ slot_at kind n → slot_past slot ≡ slot_place (slot_at kind (n + 1))
+past_at kinds.ResetStream n slot is = ap slot_past is
+past_at kinds.StopSending n slot is = ap slot_past is
+past_at kinds.MaxStreamData n slot is = ap slot_past is
+past_at kinds.StreamDataBlocked n slot is = ap slot_past is
 
 -- ---- The text of a packet grows by one frame after the other.
 
@@ -417,7 +402,7 @@ begun_ack wish room old text t goes asked sent fresh =
       order = order_first old fresh;
       steady = refl;
       within = sent;
-      items = λ i p x. absurd p;
+      items = λ i p x. absurd (none_before (slot_of i) p);
       no_chunk = λ m c there. fresh (Data m c) there;
       no_byte = ap (λ f. stream_bytes (f ∷ [])) t.is;
     }
@@ -582,7 +567,7 @@ begun_none wish room old left asked none same within fresh = subst (λ b. Begun 
   order = order_first old fresh;
   steady = refl;
   within = within;
-  items = λ i p due. absurd p;
+  items = λ i p due. absurd (none_before (slot_of i) p);
   no_chunk = λ n c there. fresh (Data n c) there;
   no_byte = refl;
 }
@@ -625,8 +610,9 @@ module _ (wish : Wish) (room : ℕ) (old : End) (text : List ℕ) (e : End) (P :
     comes passed j lower = passed (slot_of j) (rw (place_of_item j, ← c.1, place_of_item i) lower)
 
     -- a slot's item is put
-    pub begun_item : ((s : Slot) → IsLower (slot_place s) (slot_place slot) → P s) → (IsCovered e i → ⊥) → Fits (frame_of_item i) → Begun wish room old (text ++ canonical (frame_of_item i)) (frame_put (Control i) e) (λ t. P t ⊎ (t ≡ slot))
-    begun_item passed free fits =
+    pub begun_item : (Q : Slot → Type 0) → ((s : Slot) → IsLower (slot_place s) (slot_place slot) → P s) → ((s : Slot) → Q s → P s ⊎ (s ≡ slot)) → (IsCovered e i → ⊥) → Fits (frame_of_item i)
+        → Begun wish room old (text ++ canonical (frame_of_item i)) (frame_put (Control i) e) Q
+    begun_item Q passed adds free fits =
         record {
           asked = b.asked;
           framed = framed_more wish room old text e b.framed (frame_of_item i) (Control i) (seen_item i) (due_first i (c.0, free), (c.0, free)) fits (plain_item wish.delay i) (item_most old wish.delay room i) b.asked;
@@ -634,7 +620,7 @@ module _ (wish : Wish) (room : ℕ) (old : End) (text : List ℕ) (e : End) (P :
           order = order_put old e (Control i) (Told i) refl (λ j due lower. item_in old old e (seen_all b.framed.frames) j b.framed.fills (b.items j (comes passed j lower) due)) b.order;
           steady = base_item i e ∙ b.steady;
           within = b.within;
-          items = λ j p is. elim p [
+          items = λ j p is. elim (adds (slot_of j) p) [
             | inl before ↦ framed_among wish room old text e b.framed (frame_of_item i) (Control i) (seen_item i) (Control j) (b.items j before is)
             | inr same ↦ subst (λ k. Among (Control k) (seen_all (b.framed.frames ++ frame_of_item i ∷ []))) (sym (c.2 j same (now j is.0))) (framed_last wish room old text e b.framed (frame_of_item i) (Control i) (seen_item i))
           ];

@@ -135,12 +135,6 @@ slot_at kinds.StopSending n = slots.StopSending n
 slot_at kinds.MaxStreamData n = slots.MaxStreamData n
 slot_at kinds.StreamDataBlocked n = slots.StreamDataBlocked n
 
-abbrev pub IsOfKind : Kind → Slot → Type 0
-IsOfKind kind s = (n : ℕ) × (s ≡ slot_at kind n)
-
-abbrev pub IsBelow : Kind → ℕ → Slot → Type 0
-IsBelow kind b s = (n : ℕ) × (n < b) × (s ≡ slot_at kind n)
-
 -- a slot's kind, and its stream or direction: the place of its items
 abbrev pub slot_place : Slot → ℕ × ℕ
 slot_place slots.MaxData = (0, 0)
@@ -152,34 +146,36 @@ slot_place slots.DataBlocked = (5, 0)
 slot_place (slots.StreamDataBlocked n) = (6, n)
 slot_place (slots.StreamsBlocked d) = (7, dir_number d)
 
-abbrev pub kind_place : Kind → ℕ
-kind_place kind = (slot_place (slot_at kind 0)).0
+-- the next place behind a slot's
+abbrev pub slot_past : Slot → ℕ × ℕ
+slot_past slots.MaxData = (1, 0)
+slot_past (slots.MaxStreams Bidi) = (1, 1)
+slot_past (slots.MaxStreams Uni) = (2, 0)
+slot_past (slots.ResetStream n) = (2, n + 1)
+slot_past (slots.StopSending n) = (3, n + 1)
+slot_past (slots.MaxStreamData n) = (4, n + 1)
+slot_past slots.DataBlocked = (6, 0)
+slot_past (slots.StreamDataBlocked n) = (6, n + 1)
+slot_past (slots.StreamsBlocked Bidi) = (7, 1)
+slot_past (slots.StreamsBlocked Uni) = (8, 0)
 
--- the slots that were passed: some one by one, of some kinds all, of some those of the streams below a number
-pub data Passed : Type 0 where
-  no_slot : Passed
-  and_slot : (passed : Passed) (slot : Slot) → Passed
-  and_kind : (passed : Passed) (kind : Kind) → Passed
-  and_below : (passed : Passed) (kind : Kind) (bound : ℕ) → Passed
+-- the first place of a kind, and the next one behind all of it
+abbrev pub kind_first : Kind → ℕ × ℕ
+kind_first kind = slot_place (slot_at kind 0)
 
-abbrev pub IsPassed : Passed → Slot → Type 0
-IsPassed no_slot s = ⊥
-IsPassed (and_slot passed slot) s = IsPassed passed s ⊎ (s ≡ slot)
-IsPassed (and_kind passed kind) s = IsPassed passed s ⊎ IsOfKind kind s
-IsPassed (and_below passed kind bound) s = IsPassed passed s ⊎ IsBelow kind bound s
+abbrev pub kind_past : Kind → ℕ × ℕ
+kind_past kind = ((kind_first kind).0 + 1, 0)
 
--- all slots that come before this one were passed
-abbrev pub HasPassedTo : Passed → Slot → Type 0
-HasPassedTo passed slot = (s : Slot) → IsLower (slot_place s) (slot_place slot) → IsPassed passed s
+-- the first place, and the next one behind all slots
+abbrev pub no_slot : ℕ × ℕ
+no_slot = (0, 0)
 
--- all slots of earlier kinds were
-abbrev pub HasPassedKinds : Passed → ℕ → Type 0
-HasPassedKinds passed kind = (s : Slot) → (slot_place s).0 < kind → IsPassed passed s
+abbrev pub all_items : ℕ × ℕ
+all_items = (8, 0)
 
--- all slots, in the order in which they are passed
-abbrev pub all_items : Passed
-all_items =
-    and_slot (and_slot (and_kind (and_slot (and_kind (and_kind (and_kind (and_slot (and_slot (and_slot no_slot slots.MaxData) (slots.MaxStreams Bidi)) (slots.MaxStreams Uni)) kinds.ResetStream) kinds.StopSending) kinds.MaxStreamData) slots.DataBlocked) kinds.StreamDataBlocked) (slots.StreamsBlocked Bidi)) (slots.StreamsBlocked Uni)
+-- a slot comes before a place
+abbrev pub IsPassed : ℕ × ℕ → Slot → Type 0
+IsPassed at s = IsLower (slot_place s) at
 
 -- there is room for a piece of two bytes or more for each that may come
 abbrev pub HasSpare : ℕ → ℕ → ℕ → Type 0
@@ -329,9 +325,9 @@ Flow wish room old text e quota true t = Packed t.first wish room old text e quo
 Flow wish room old text e quota false t = Flowing wish room old text e quota t
 
 -- a packet so far, or one that is full
-abbrev pub Stage : (wish : Wish) (room : ℕ) → End → List ℕ → End → Bool → Passed → Type 0
-Stage wish room old text e true passed = (first : ℕ) → Packed first wish room old text e wish.want.most_bytes
-Stage wish room old text e false passed = Begun wish room old text e (IsPassed passed)
+abbrev pub Stage : (wish : Wish) (room : ℕ) → End → List ℕ → End → Bool → ℕ × ℕ → Type 0
+Stage wish room old text e true at = (first : ℕ) → Packed first wish room old text e wish.want.most_bytes
+Stage wish room old text e false at = Begun wish room old text e (IsPassed at)
 
 -- the frame of a chunk, with the written bytes
 abbrev pub stream_frame : Outgoing → ℕ → Chunk → FrameValue

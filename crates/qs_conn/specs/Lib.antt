@@ -1,4 +1,3 @@
-pub mod Touches
 pub mod Layers
 pub mod ByDir
 pub mod Edits
@@ -14,7 +13,7 @@ pub mod RecvEdits
 pub mod Words
 pub mod Sending
 pub mod Due
-pub mod OwnCarried
+pub mod OwnTold
 pub mod Named
 pub mod Seen
 pub mod Held

@@ -12,7 +12,7 @@ use Rattle.qs_machine.specs.Outgoing.{IsIdle, sent_sum}
 use Rattle.qs_machine.specs.Standing.{KeepsCredit}
 use Rattle.qs_conn.specs.declared.middle.Core.{Core}
 use Rattle.qs_conn.specs.Due.{AreDue, packets_of}
-use Rattle.qs_conn.specs.OwnCarried.{AreOwn}
+use Rattle.qs_conn.specs.OwnTold.{AreOwn}
 use Rattle.qs_conn.specs.Ended.{CountsFit}
 use Rattle.qs_conn.specs.declared.slot.Kind.{Kind}
 use Rattle.qs_conn.specs.declared.slot.Slot.{Slot}

@@ -1,17 +1,15 @@
 -- Of private contracts.
 -- One receiving half is changed by a closure, and what is kept beside the halves of a type.
-use Rattle.std.specs.Prelude.{◌≡◌, ℕ, ◌+◌, ◌-◌, ◌%◌, ◌^◌, ◌≤◌, List, length}
+use Rattle.std.specs.Prelude.{◌≡◌, ℕ, ◌+◌, ◌-◌, ◌%◌, ◌^◌, ◌≤◌, Bool, false, List, length, slice_get, Some}
 use Rattle.std.specs.Borrow.{MutBor}
 use Rattle.std.specs.Fn.{Once}
-use Rattle.qs_recv.specs.Lane.{RecvLane, highest, taken, noted}
+use Rattle.qs_recv.specs.Lane.{RecvLane, highest, taken, noted, raised_limit}
 use Rattle.qs_machine.specs.declared.tally.Tally.{Tally}
 use Rattle.qs_machine.specs.Sums.{stored_on, tally_on, IsPaid, EachLawful}
 use Rattle.qs_machine.specs.Tables.{Tables, total}
-use Rattle.qs_conn.specs.declared.touches.Touches.{Touches}
 use Rattle.qs_conn.specs.declared.recv_marks.RecvMarks.{RecvMarks}
-use Rattle.qs_conn.specs.Marks.{HasRoom}
+use Rattle.qs_conn.specs.Marks.{HasRoom, is_marked}
 use Rattle.qs_conn.specs.RecvTasks.{AreNoted}
-use Rattle.qs_conn.specs.Touches.{IsSettled, AreSettled}
 
 -- A closure that changes a half and fills a slice
 
@@ -27,6 +25,10 @@ pub record OnceInto {F S T R : Type 0} (g : Once F (MutBor S × (MutBor T × Uni
 -- such a call may be made
 abbrev pub OnceTakesInto : {F S T R : Type 0} → Once F (MutBor S × (MutBor T × Unit {0})) (R × (MutBor S × (MutBor T × Unit {0}))) → F → S → T → Type 0
 OnceTakesInto {F} {S} {T} g f x y = (p : MutBor S) (q : MutBor T) → p.now ≡ x → q.now ≡ y → g.pre f (p, (q, tt))
+
+-- the limit is the next one already
+abbrev pub IsSettled : RecvLane → Type 0
+IsSettled lane = raised_limit lane ≡ lane.limit
 
 -- where a lane's limit is the next one, and as much is taken of it as before, its limit is the next one still
 pub record IsCalm (x x' : RecvLane) : Type 0 where
@@ -66,12 +68,16 @@ added a b c d =
       noted = (a.noted + b.noted + c.noted + d.noted) % 2 ^ 64;
     }
 
--- the sums are right, only touched lanes may have a limit to be raised, and the marks tell which lanes have an answer
-pub record AreKept (lanes : List RecvLane) (tally : Tally) (touched : Touches) (marks : RecvMarks) : Type 0 where
+-- no limit rises but of lanes with a mark
+abbrev pub AreSettled : List Bool → List RecvLane → Type 0
+AreSettled rising lanes = (i : ℕ) (l : RecvLane) → slice_get lanes i ≡ Some l → is_marked rising i ≡ false → IsSettled l
+
+-- the sums are right, and the marks tell which limits rise and which lanes have an answer
+pub record AreKept (lanes : List RecvLane) (tally : Tally) (rising : List Bool) (marks : RecvMarks) : Type 0 where
   pub counted : tally ≡ wrapped (tally_on lanes)
   pub lawful : EachLawful lanes
-  pub settled : AreSettled touched lanes
-  pub room : HasRoom (length lanes) touched.marks
+  pub settled : AreSettled rising lanes
+  pub room : HasRoom (length lanes) rising
   pub few : length lanes ≤ 2 ^ 60
   pub noted : AreNoted lanes marks
 

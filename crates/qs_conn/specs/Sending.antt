@@ -11,7 +11,7 @@ use Rattle.qs_machine.specs.Due.{IsDueItem, StreamGoes}
 use Rattle.qs_calls.specs.declared.filling.Fill.{Fill}
 use Rattle.qs_machine.specs.Filling.{IsAsked, WantedGoes}
 use Rattle.qs_machine.specs.News.{IsHeld, HasForPacket}
-use Rattle.qs_conn.specs.Filling.{slot_of, Passed, IsPassed}
+use Rattle.qs_conn.specs.Filling.{slot_of, IsPassed}
 use Rattle.qs_conn.specs.Tasks.{is_funded}
 
 -- bytes of the stream or its end are due, which its own limit lets go
@@ -52,10 +52,10 @@ offered e l bytes = front_of (window_left e) (let_go e l bytes)
 abbrev pub HasSent : SendLane → Type 0
 HasSent l = send_ended l ≡ true
 
--- some item is due; or none of the slots that were passed
-abbrev pub TellsDue : Bool → End → Passed → Type 0
-TellsDue true e passed = (i : Item) × IsDueItem e i
-TellsDue false e passed = (i : Item) → IsPassed passed (slot_of i) → IsDueItem e i → ⊥
+-- some item is due; or none before a place
+abbrev pub TellsDue : Bool → End → ℕ × ℕ → Type 0
+TellsDue true e at = (i : Item) × IsDueItem e i
+TellsDue false e at = (i : Item) → IsPassed at (slot_of i) → IsDueItem e i → ⊥
 
 -- it is so, as the answer tells, or not
 abbrev pub Tells : Bool → Type 0 → Type 0

@@ -16,7 +16,7 @@ use crate::held::Held;
 use crate::limits::Limits;
 use crate::middle::Core;
 use crate::outbox::Outbox;
-use crate::own_carried::OwnCarried;
+use crate::own_told::OwnTold;
 use crate::places::type_of;
 use crate::recv_tables::RecvTables;
 use crate::setup::{setup_fault, wide_setup_fault};
@@ -175,7 +175,7 @@ impl Endpoint {
                 outbox: Outbox::new(alloc),
                 recvs: RecvTables::new(alloc),
                 due: Due::new(alloc),
-                own: OwnCarried::new(),
+                own: OwnTold::new(),
                 ended: ByDir::new(0, 0),
             },
             peer,

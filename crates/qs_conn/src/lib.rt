@@ -17,7 +17,7 @@ mod marks;
 mod middle;
 mod newly_told;
 mod outbox;
-mod own_carried;
+mod own_told;
 mod piece_room;
 mod places;
 mod recv_lanes;
@@ -33,7 +33,6 @@ mod stream_values;
 mod told;
 mod told_marks;
 mod told_streams;
-mod touches;
 
 pub use endpoint::Endpoint;
 pub use heard::Heard;

@@ -11,12 +11,12 @@ ghost use Rattle.qs_machine.specs.Outgoing.{Outgoing};
 ghost use Rattle.qs_conn.specs.Filling.{end_by, IsCurrentIn, ItemFits, LimitsFit, with_window, with_grant, AnyWantsMore};
 ghost use Rattle.qs_conn.specs.Marks.{IsIdle};
 ghost use Rattle.qs_conn.specs.Due.{packets_of};
-ghost use Rattle.qs_conn.specs.OwnCarried.{AreOwn};
+ghost use Rattle.qs_conn.specs.OwnTold.{AreOwn};
 
 use crate::by_dir::ByDir;
 use crate::endpoint::{is_uni, role_bit};
 use crate::outbox::Outbox;
-use crate::own_carried::OwnCarried;
+use crate::own_told::OwnTold;
 use crate::places::type_of;
 use crate::recv_tables::RecvTables;
 use crate::send_marks::Task;
@@ -65,7 +65,7 @@ impl Limits {
 
     /// Whether a look at few numbers shows that no item is due, as is mostly so: then no half is looked at.
     #[inline(always)]
-    pub(crate) fn has_told(&self, outbox: &Outbox, own: &OwnCarried, slot: &Slot) -> bool
+    pub(crate) fn has_told(&self, outbox: &Outbox, own: &OwnTold, slot: &Slot) -> bool
         requires fits { LimitsFit self.now }
         requires own { AreOwn self.now (packets_of outbox.now) own.now }
         ensures { result ≡ true → (recvs : Tables RecvLane) (e : End) → IsIdle (end_by self.now recvs outbox.now e) slot.now }
@@ -82,7 +82,7 @@ impl Limits {
     // No stream is looked at.
     #[inline(always)]
     #[tactic(auto, using(crate::proofs::Owns::present_idle, crate::proofs::Untolds::of_slot))]
-    fn has_told_blocked(&self, outbox: &Outbox, own: &OwnCarried) -> bool
+    fn has_told_blocked(&self, outbox: &Outbox, own: &OwnTold) -> bool
         requires { AreOwn self.now (packets_of outbox.now) own.now }
         ensures { result ≡ true → (recvs : Tables RecvLane) (e : End) → IsIdle (end_by self.now recvs outbox.now e) slots.DataBlocked }
     {
@@ -110,28 +110,14 @@ impl Limits {
     pub(crate) fn set_grant(&mut self, dir: Dir, streams: u64, ended: u64)
         ensures { self.new ≡ with_grant dir streams ended self.old }
     {
-        match dir {
-            Dir::Bidi => {
-                self.granted_streams.bidi = count_with(
-                    self.grants.bidi,
-                    self.granted_streams.bidi,
-                    self.settings.lifetime_bidi,
-                    ended,
-                    streams,
-                );
-                self.grants.bidi = streams;
-            }
-            Dir::Uni => {
-                self.granted_streams.uni = count_with(
-                    self.grants.uni,
-                    self.granted_streams.uni,
-                    self.settings.lifetime_uni,
-                    ended,
-                    streams,
-                );
-                self.grants.uni = streams;
-            }
-        }
+        let lifetime = match dir {
+            Dir::Bidi => self.settings.lifetime_bidi,
+            Dir::Uni => self.settings.lifetime_uni,
+        };
+        let granted = self.granted_streams.of(dir);
+        let count = count_with(self.grants.of(dir), granted, lifetime, ended, streams);
+        self.granted_streams.set(dir, count);
+        self.grants.set(dir, streams);
     }
 
     // Once it was raised: the first limit was in the handshake.

@@ -8,7 +8,7 @@ use crate::due::Due;
 use crate::endpoint::{is_uni, role_bit};
 use crate::limits::Limits;
 use crate::outbox::Outbox;
-use crate::own_carried::OwnCarried;
+use crate::own_told::OwnTold;
 use crate::places::type_of;
 use crate::recv_tables::RecvTables;
 use qs_wire::StreamId;
@@ -27,7 +27,7 @@ pub(crate) struct Core {
     pub outbox: Outbox,
     pub recvs: RecvTables,
     pub due: Due,
-    pub own: OwnCarried,
+    pub own: OwnTold,
     pub ended: ByDir<u64>,
 }
 

@@ -1,12 +1,11 @@
-ghost use Rattle.std.specs.Prelude.{◌≡◌, ◌+◌, ◌-◌, ◌≤◌, ◌<◌, ◌^◌, ◌++◌, ◌∷◌, [], ℕ, length, map, take, slice_get, slice_index_or, false, None, Some, IfSome, IfNone, OnOk, OnErr};
+ghost use Rattle.std.specs.Prelude.{◌≡◌, ◌⊎◌, ◌+◌, ◌-◌, ◌≤◌, ◌<◌, ◌^◌, ◌++◌, ◌∷◌, [], ℕ, length, map, take, slice_get, slice_index_or, slice_set, is_some, false, None, Some, IfSome, IfNone, OnOk, OnErr};
 ghost use Rattle.qs_ranges.specs.Numbers.{MAX_VARINT};
-ghost use Rattle.qs_recv.specs.Lane.{MAX_WINDOW, RecvLane, new_lane, raise};
+ghost use Rattle.qs_recv.specs.Lane.{MAX_WINDOW, RecvLane, new_lane, raise, raise_answer};
 ghost use Rattle.qs_recv.specs.Lawful.{IsLawful};
 ghost use Rattle.qs_machine.specs.Tables.{widened};
 ghost use Rattle.qs_machine.specs.Sums.{changed, tally_of, tally_on, IsPaid, EachLawful};
 ghost use Rattle.qs_conn.specs.Rooms.{IsRoom, IsSumOf};
-ghost use Rattle.qs_conn.specs.Touches.{AreSettled};
-ghost use Rattle.qs_conn.specs.RecvEdits.{OnceInto, OnceTakesInto, LeavesCalm, wrapped, with_parts};
+ghost use Rattle.qs_conn.specs.RecvEdits.{AreSettled, OnceInto, OnceTakesInto, LeavesCalm, wrapped, with_parts};
 ghost use Rattle.qs_conn.specs.Edits.{IsEdited};
 ghost use Rattle.qs_conn.specs.RecvTasks.{has_one};
 ghost use Rattle.qs_conn.specs.Due.{StayMarkedOf};
@@ -16,7 +15,6 @@ use crate::holds::{Holds, sum_held};
 use crate::marks::Marks;
 use crate::recv_marks::{RecvMarks, RecvTask};
 use crate::stream_marks::StreamMarks;
-use crate::touches::Touches;
 use qs_machine::Tally;
 use qs_ranges::NoMemory;
 use qs_recv::{RecvHalf, RingAssembly, Share};
@@ -34,8 +32,8 @@ pub(crate) struct RecvLanes {
     halves: Vec<Half>,
     // Modulo 2^64: whoever asks for the sums knows that they fit.
     tally: Tally,
-    // Limits are raised for these alone, as each call ends.
-    touched: Touches,
+    // Each whose limit rises as the call ends, and no limit rises else.
+    rising: Marks,
     news: RecvMarks,
 }
 
@@ -52,7 +50,7 @@ impl Model for RecvLanes {
 
     ghost view = { λ l. l.halves.items };
 
-    ghost invariant = { λ l. AreKept l.halves.items l.tally l.touched l.news };
+    ghost invariant = { λ l. AreKept l.halves.items l.tally l.rising l.news };
 }
 
 impl RecvLanes {
@@ -68,7 +66,7 @@ impl RecvLanes {
                 stored: 0,
                 noted: 0,
             },
-            touched: Touches::new(alloc),
+            rising: Marks::new(alloc),
             news: RecvMarks::new(alloc),
         }
     }
@@ -129,7 +127,7 @@ impl RecvLanes {
         ensures err { OnErr result (self.new ≡ self.old) }
     {
         let index = self.halves.len();
-        self.touched.make_room(index)?;
+        self.rising.make_room(index)?;
         self.news.make_room(index)?;
         let fresh: Half = RecvHalf::new(self.alloc, window, share)?;
         self.halves.push(fresh)?;
@@ -144,8 +142,7 @@ impl RecvLanes {
         self.news.clear_from(count);
     }
 
-    /// Changes an open lane: the one way in. The sums, the marks and what is to be looked at again follow. Memory that the change fills is
-    /// handed through.
+    /// Changes an open lane: the one way in. The sums and the marks follow. Memory that the change fills is handed through.
     #[inline]
     pub(crate) fn edit<R, F: FnOnce(&mut Half, &mut [u8]) -> R>(
         &mut self,
@@ -164,21 +161,21 @@ impl RecvLanes {
         let is = measure(half);
         self.news.look(index, half);
         self.tally = moved(self.tally, was, is);
-        self.touched.look(index, was.taken, is.taken);
+        mark_rise(&mut self.rising, index, half, was.taken, is.taken);
         answer
     }
 
-    /// Only lanes that were touched are looked at. A stream whose limit rises is marked: the new one is in no packet yet.
+    /// A stream whose limit rises is marked: the new one is in no packet yet.
     #[inline]
     pub(crate) fn raise_all(&mut self, stream_type: usize, limits: &mut StreamMarks)
         requires { stream_type < 4 }
         ensures after { self.new ≡ map raise self.old }
         ensures marked { StayMarkedOf stream_type self.old self.new limits.old limits.new }
     {
-        if self.touched.is_none() {
+        if !self.rising.may_have() {
             return;
         }
-        raise_touched(&mut self.halves, &mut self.touched, stream_type, limits);
+        raise_marked(&mut self.halves, &mut self.rising, stream_type, limits);
     }
 
     /// The marks of the lanes that have such an answer for their owner.
@@ -223,6 +220,16 @@ fn measure(half: &Half) -> Tally
     }
 }
 
+// Mostly no more is taken of the lane, and its limit stays.
+#[inline(always)]
+fn mark_rise(rising: &mut Marks, index: usize, half: &Half, was: u64, is: u64)
+    ensures { ((was ≡ is) × (rising.new ≡ rising.old)) ⊎ (rising.new ≡ slice_set rising.old index (is_some (raise_answer half.now))) }
+{
+    if was != is {
+        rising.set(index, half.rises());
+    }
+}
+
 // The sums once a lane's part became another, modulo 2^64.
 fn moved(total: Tally, was: Tally, is: Tally) -> Tally
     ensures { result ≡ with_parts total was is }
@@ -238,23 +245,24 @@ fn moved(total: Tally, was: Tally, is: Tally) -> Tally
     }
 }
 
-// Apart, so that a call that touched nothing pays for one look.
+// Apart, so that a call after which no limit rises pays for one look.
 #[inline(never)]
-fn raise_touched(
+fn raise_marked(
     halves: &mut Vec<Half>,
-    touched: &mut Touches,
+    rising: &mut Marks,
     stream_type: usize,
     limits: &mut StreamMarks,
 )
     requires stream_type { stream_type < 4 }
     requires few { length halves.old.items ≤ 2 ^ 60 }
-    requires settled { AreSettled touched.old halves.old.items }
+    requires settled { AreSettled rising.old halves.old.items }
     ensures after { halves.new.items ≡ map raise halves.old.items }
-    ensures room { length touched.new.marks ≡ length touched.old.marks }
-    ensures settled { AreSettled touched.new halves.new.items }
+    ensures room { length rising.new ≡ length rising.old }
+    ensures settled { AreSettled rising.new halves.new.items }
     ensures marked { StayMarkedOf stream_type halves.old.items halves.new.items limits.old limits.new }
 {
-    while let Some(index) = touched.pop() {
+    while let Some(index) = rising.next(0) {
+        rising.set(index, false);
         if index < halves.len() {
             raise_at(halves, index, stream_type, limits);
         }

@@ -91,16 +91,9 @@ in_of role o bidi uni n = cond (is_own_by role n) (fault_if (is_none o) 0x05) (c
 abbrev out_of : Role → Option SendLane → ℕ → ℕ → ℕ → Option ℕ
 out_of role o bidi uni n = cond (is_own_by role n) (fault_if (is_none o) 0x05) (cond (is_uni n) (Some 0x05) (count_fault bidi uni n))
 
--- a stream within the counts stays so where they rise
-pub count_stays : (bidi uni more_bidi more_uni n : ℕ) → bidi ≤ more_bidi → uni ≤ more_uni → count_fault bidi uni n ≡ None → count_fault more_bidi more_uni n ≡ None
-count_stays bidi uni more_bidi more_uni n le_bidi le_uni = grind arith
-
 -- a half that is there stays there
 pub own_stays : {X : Type 0} (own : Bool) (other later : Option ℕ) (o p : Option X) → (is_some o ≡ true → is_some p ≡ true) → (other ≡ None → later ≡ None) → cond own (fault_if (is_none o) 0x05) other ≡ None → cond own (fault_if (is_none p) 0x05) later ≡ None
 own_stays own other later o p more fine h = grind arith
-
-pub uni_stays : (uni : Bool) (few more : Option ℕ) → (few ≡ None → more ≡ None) → cond uni (Some 0x05) few ≡ None → cond uni (Some 0x05) more ≡ None
-uni_stays uni few more fine h = grind arith
 
 in_stays : (n : ℕ) (a b : End) → IsAfter a b → state_fault_in a n ≡ None → state_fault_in b n ≡ None
 in_stays n a b x h = grind arith

@@ -75,9 +75,6 @@ data_from a b c p q r = grind arith
 abbrev pub reset_by : ℕ → SendLane → SendLane
 reset_by code l = record l { kept = []; was_reset = Some (record { code = code; size = cond l.fin_sent l.written l.sent_end }) }
 
-pub new_reset_keeps : (code : ℕ) (l : SendLane) → is_some (reset_refusal l) ≡ false → SendStays l (reset_by code l)
-new_reset_keeps code l allowed = grind arith
-
 pub reset_acked_keeps : (l : SendLane) → SendStays l (reset_acked_lane l)
 reset_acked_keeps l h = refl
 

@@ -269,10 +269,6 @@ abbrev is_stream : Seen → Bool
 is_stream (Stream n offset bytes fin) = true
 is_stream f = false
 
-abbrev ranges_of : Seen → List (ℕ × ℕ)
-ranges_of (Ack largest ranges) = ranges
-ranges_of f = []
-
 still_due : IsDue (frame_put (Control (MaxData 5000)) two_due) 0 wrote 0
 unfolding lookup update frame_put
 still_due =

@@ -61,21 +61,9 @@ abbrev number_of : {F : Type 0} → Result ℕ F → ℕ
 number_of (Ok n) = n
 number_of (Err fault) = 0
 
-abbrev is_unknown : {A : Type 0} → Result A UseFault → Bool
-is_unknown (Err NoSuchStream) = true
-is_unknown answer = false
-
-abbrev is_waiting : Result Read UseFault → Bool
-is_waiting (Ok reads.Wait) = true
-is_waiting answer = false
-
 abbrev read_of : Result Consumed UseFault → Result Read UseFault
 read_of (Ok answer) = Ok answer.read
 read_of (Err fault) = Err fault
-
-abbrev ends_of : Result Consumed UseFault → Bool
-ends_of (Ok answer) = answer.at_end
-ends_of (Err fault) = false
 
 abbrev told_at : Option RecvLane → Bool
 told_at (Some l) = l.reader_done

@@ -295,11 +295,6 @@ abbrev fault_in : Result Taken TakeFault → Option TakeFault
 fault_in (Ok taken) = None
 fault_in (Err fault) = Some fault
 
-abbrev closing_in : Result Taken TakeFault → ℕ
-closing_in (Err (faults.Closing closing)) = closing.code
-closing_in (Err (faults.PeerClosed code)) = code
-closing_in _ = 0
-
 abbrev is_took : Result Taken TakeFault → Bool
 is_took (Ok Took) = true
 is_took r = false
@@ -323,10 +318,6 @@ no_first : (fault : TakeFault) (new : End) → TakesOne ten (max_data 5000) (Err
 no_first (faults.Closing closing) new one = of_max_data closing.code one.0
 no_first faults.NoMemory new one = one.1.1
 no_first (faults.PeerClosed code) new one = one
-
-abbrev is_other : Result Taken TakeFault → Bool
-is_other (Ok NotOurs) = true
-is_other r = false
 
 -- a frame that was taken is of these kinds, whatever comes behind it
 after_took : (e : End) (f : FrameValue) (one : Taken) (mid : End) (later : Result Taken TakeFault) → TakesOne e f (Ok one) mid → ◌≡◌ {A = Result Taken TakeFault} (Ok NotOurs) (after_one one later) → ⊥
@@ -367,10 +358,6 @@ noted_fault (Err fault) = Some fault
 abbrev is_memory : Result (Unit {0}) TokenFault → Bool
 is_memory (Err tokens.NoMemory) = true
 is_memory answer = false
-
-abbrev is_closing : Result (Unit {0}) TokenFault → Bool
-is_closing (Err tokens.Closed) = true
-is_closing answer = false
 
 -- no declared loss is answered so
 not_given : (declared : Result (Unit {0}) LostFault) → ◌≡◌ {A = Result (Unit {0}) TokenFault} (Err tokens.NotGiven) (lost_answer declared) → ⊥

@@ -100,9 +100,6 @@ module _ {X : Type 0} (m : fmap.FinMap nat_cmp X) where
   pub filter_nothing : (f : ℕ → Bool) → ((j : ℕ) → is_some (fmap.get m j) ≡ true → f j ≡ false) → reverse (filter f (fmap.keys m)) ≡ []
   filter_nothing f none = ap reverse (filter_none f (fmap.keys m) (λ j a. none j (is_held j a)))
 
-  pub filter_alike : (f g : ℕ → Bool) → ((j : ℕ) → f j ≡ g j) → filter f (fmap.keys m) ≡ filter g (fmap.keys m)
-  filter_alike f g same = filter_same f g (fmap.keys m) (λ j a. same j)
-
   -- the tests need be alike of what is held alone
   pub filter_held : (f g : ℕ → Bool) → ((j : ℕ) → is_some (fmap.get m j) ≡ true → f j ≡ g j) → filter f (fmap.keys m) ≡ filter g (fmap.keys m)
   filter_held f g same = filter_same f g (fmap.keys m) (λ j a. same j (is_held j a))

@@ -163,11 +163,6 @@ plain_frames old new k text other r differ step = received k text other differ o
 
 -- A CONNECTION_CLOSE comes among plain frames: nothing else takes effect.
 
--- the code of the close that these frames begin with
-abbrev code_in : List Seen → ℕ
-code_in (Close code ∷ fs) = code
-code_in fs = 0
-
 module _ (Q : Result Received Closing → End → Type 0) (k code : ℕ) (e : End) (fault : Option WireFault) (closed : Q (Ok (PeerClosed code)) (closes (ByPeer code) e)) where
   close_goes : (p : PlacedValue) (f : Seen) (fs : List Seen) (left : List PlacedValue) (asks : Bool) (result : Result Received Closing) (mid : End) → but_plain (f ∷ fs) ≡ Close code ∷ [] →
       Stops p f e result mid ⊎ (GoesOn e f × Takes k fault (asks || asks_ack f) (frame_taken f e) left result mid) → ((b : Bool) → but_plain fs ≡ Close code ∷ [] → Takes k fault b e left result mid → Q result mid) → Q result mid

@@ -153,11 +153,6 @@ written_is ls n k i d ys bytes (Ok m) len kind index h =
     (ap (λ (s : Sending). refusal s.lane) e ∙ h.0, h.1 ∙ ap (λ (s : Sending). accepted s.lane (length bytes)) (sym e), updated_is ls n k i d ys (λ s. after_write s (take m bytes)) len kind index h.2)
 written_is ls n k i d ys bytes (Err f) len kind index h = tt
 
-pub refused_is : (ls : List (List Sending)) (n k i : ℕ) (d ys : List Sending) (r : Result ℕ SendFault) → length ls ≡ 4 → k ≡ n % 4 → i ≡ n / 4
-    → IfErr r (λ f. (ys ≡ get_or ls k d) × (f ≡ unwrap_or (refusal (get_or (get_or ls k d) i no_sending).lane) NoMemory))
-    → IfErr r (λ f. (tables_of (set ls k ys) ≡ tables_of ls) × (f ≡ unwrap_or (refusal (or_no_sending (lookup (tables_of ls) n)).lane) NoMemory))
-refused_is ls n k i d ys r len kind index h = grind (arith, nat_tests, set, set-get_or, unwrap_or, half_is)
-
 -- lanes that were opened, or weren't, add nothing to the sums
 pub same_tally : (t : Tables RecvLane) (n w : ℕ) (share : Share) (b : Bool) (mid : Tables RecvLane) (m : ℕ) → mid ≡ cond b t (open_to t n (λ j. new_lane w share)) → m ≡ length (table t (n % 4))
     → tally_on (take m (table mid (n % 4))) ≡ tally_on (table mid (n % 4))

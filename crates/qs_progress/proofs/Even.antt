@@ -60,10 +60,6 @@ members_even s t within few q there = go (set.contains s q) refl
 pub one_even : (b c : Bool) → one_if c ≤ one_if b → c ≡ true → b ≡ true
 one_even b c even is = grind (arith, nat_tests)
 
--- a value that isn't acknowledged, and the ones that follow it
-pub told_even : (least p q : ℕ) (d : Bool) → least ≤ p → p ≤ q → told_from least q d ≤ told_from least p false → (q ≡ p) × (d ≡ false)
-told_even least p q d low le even = grind (arith, nat_tests)
-
 -- a stream that has a half is counted
 counted : {X : Type 0} (t : Tables X) (n : ℕ) (x : X) → lookup t n ≡ Some x → n / 4 < total (λ (y : X). 1) t
 unfolding lookup total
@@ -162,9 +158,6 @@ module _ (a b : End) (g : Goes a b) (even : score b ≤ score a) where
 
     got_kept : GotGrows l m
     got_kept = let (k, is, r) = g.recvs n l at in subst (GotGrows l) (same_Some k m (sym is ∙ there)) r
-
-    abbrev done_a : Bool
-    done_a = is_done a.acked (MaxStreamData n l.limit)
 
     got_told : told_from (first_window a n + 1) l.limit (is_done a.acked (MaxStreamData n l.limit)) ≤ told_from (first_window b n + 1) m.limit (is_done b.acked (MaxStreamData n m.limit))
     got_told = item_grows a.acked b.acked (MaxStreamData n) (first_window a n + 1) (first_window b n + 1) l.limit m.limit g.items (window_same a b g n) got_kept.5

@@ -139,10 +139,6 @@ unfolding front
 front_has_one m at size some = front_some (fmap.get m at) (front m (at + 1) size) some
 
 module _ (l : RecvLane) (size : ℕ) where
-  -- what a read of one byte tells, without its count
-  abbrev answer_with : (stopped whole at_end came : Bool) → ℕ → Read
-  answer_with stopped whole at_end came n = cond stopped (cond whole reads.End reads.Wait) (cond at_end reads.End (cond came (reads.Bytes n) reads.Wait))
-
   same_news : tells_something (read_answer l 1) ≡ tells_something (read_answer l (suc size))
   same_news = grind (arith, nat_tests)
 

@@ -3,7 +3,7 @@ use Rattle.std.specs.FinMap as map
 use Rattle.std.specs.FinSet as set
 use Rattle.std.proofs.lemmas.Bool.Decides.{nat_tests}
 use Rattle.std.proofs.Common.{◌≡◌, ℕ, Bool, true, false, Option, is_some, ◌⊎◌, sym, ◌∙◌, ap, arith, inl, inr, ◌||◌, not, ◌&&◌, subst}
-use Rattle.std.specs.Prelude.{◌+◌, ◌-◌, ◌<◌, ◌≤◌, zero, suc, cond, nat_le, nat_eq, max, List, length, slice_get, None, Some, Ok, Err, IsOk, unwrap_or, Result, ◌↔◌, ◌*◌, if◌then◌else◌, IsTrue, is_none}
+use Rattle.std.specs.Prelude.{◌+◌, ◌-◌, ◌<◌, ◌≤◌, zero, suc, cond, nat_le, nat_eq, max, List, length, slice_get, None, Some, Ok, Err, IsOk, unwrap_or, Result, ◌↔◌, IsTrue, is_none}
 use Rattle.std.specs.Ordering.{nat_cmp}
 use Rattle.std.specs.Cmp.{nat_cmp_total, unsigned_tied}
 use Rattle.std.specs.FinMap.{nat_cmp-IsAntisymmetric, same_map}
@@ -133,9 +133,6 @@ unbroken lane offset n fin ok = passed_first _ _ _ ok
 pub highest-take_stream : (lane : RecvLane) (offset : ℕ) (bytes : List ℕ) (fin : Bool) → IsLawful lane → highest (take_stream lane offset bytes fin) ≡ highest_after lane offset (length bytes) fin
 highest-take_stream lane offset bytes fin h = grind (arith, nat_tests, end_of-with_run)
 
-pub highest_after-grows : (lane : RecvLane) (offset n : ℕ) (fin : Bool) → IsLawful lane → IsOk (check_stream lane offset n fin) → highest lane ≤ highest_after lane offset n fin
-highest_after-grows lane offset n fin h ok = grind (arith, nat_tests)
-
 -- what counts as taken follows the highest offset or the read count
 pub taken_grows : (b : Bool) (h h' r : ℕ) → h ≤ h' → cond b h r ≤ cond b h' r
 taken_grows b h h' r le = grind (arith, nat_tests)
@@ -150,10 +147,6 @@ lawful_take_stream lane offset bytes fin h ok = by_reset (is_some lane.reset_cod
     by_reset false grown = grind (arith, nat_tests, end_of-with_run, put_past, contains-with_run, or_left)
 
 -- A reset
-
--- a final size that passed the check isn't below the highest offset, and a known one is the same
-pub reset_above : (lane : RecvLane) (size : ℕ) → IsOk (check_reset lane size) → highest lane ≤ size
-reset_above lane size ok = grind (arith, nat_tests)
 
 pub reset_known : (lane : RecvLane) (size : ℕ) → IsOk (check_reset lane size) → is_some lane.final_size ≡ true → highest lane ≡ size
 reset_known lane size ok known = grind (arith, nat_tests)
@@ -524,17 +517,6 @@ same_tests b c f g = grind (arith, nat_tests)
 -- a test that says whether a range is covered is the computed one
 pub covered_is : (b : Bool) (s : NumberSet) (lo hi : ℕ) → IsTrue b ↔ ContainsRange s lo hi → b ≡ covers s lo hi
 covered_is b s lo hi h = same_tests b (covers s lo hi) (λ t. covers-of s lo hi (h.0 t)) (λ t. h.1 (covers-is s lo hi t))
-
--- the memory that an assembly takes, seen from the half: once bytes are thrown away none is stored
-pub held_within : (lane : RecvLane) (w n e held : ℕ) → IsSound lane w n e → (map.len lane.arrived.stored ≡ 0 → held ≤ 4096) → held ≤ max 4096 (4 * (end_of lane.arrived.received - lane.arrived.read_count)) → held ≤ max 4096 (4 * (highest lane - taken lane))
-held_within lane w n e held h idle bound = go (is_some lane.reset_code || is_some lane.stop_code) h.lawful.discards
-  where
-    within : end_of lane.arrived.received ≤ highest lane
-    within = h.lawful.received_within
-
-    go : (off : Bool) → lane.arrived.discarding ≡ off → held ≤ max 4096 (4 * (highest lane - (if off then highest lane else lane.arrived.read_count)))
-    go true is = (let few = idle (ap map.len (h.lawful.thrown_away is) ∙ map.len-empty nat_cmp ℕ) in omega (arith, few))
-    go false is = omega (arith, bound, within)
 
 -- ---- Which frames change a receiving lane.
 

@@ -259,10 +259,6 @@ pub forgotten_is : (lane : RecvLane) (w n e code size : ℕ) → IsSound lane w 
     → lane_at_rest (record { widest = w; size = lane.window; share = lane.share }) n e lane.limit (Some size) (Some code) lane.stop_code lane.reader_done ≡ record lane { arrived = forget lane.arrived; final_size = Some size; reset_code = Some code }
 forgotten_is lane w n e code size h = grind (arith, nat_tests)
 
-pub reset_is : (lane : RecvLane) (w n e code size : ℕ) → is_some lane.reset_code ≡ false → is_whole lane ≡ false → IsSound lane w n e
-    → lane_at_rest (record { widest = w; size = lane.window; share = lane.share }) n e lane.limit (Some size) (Some code) lane.stop_code lane.reader_done ≡ take_reset lane code size
-reset_is lane w n e code size no_reset not_whole h = grind (arith, nat_tests)
-
 pub reset_at_rest : (lane : RecvLane) (w n e code size : ℕ) → is_some lane.reset_code ≡ false → is_whole lane ≡ false → IsOk (check_reset lane size) → IsSound lane w n e
     → IsAtRest (lane_at_rest (record { widest = w; size = lane.window; share = lane.share }) n e lane.limit (Some size) (Some code) lane.stop_code lane.reader_done) n e
 reset_at_rest lane w n e code size no_reset not_whole ok h =

@@ -133,9 +133,6 @@ byte_far ring near pages q h = let t : nat_lt q near ≡ false = grind (arith, n
 
 -- Where the ring's bytes end
 
-pub near_missing : (ring : List ℕ) (pages : Pages) (r : NumberSet) (from near end : ℕ) → IsApart ring pages r from near end → set.contains r near ≡ false
-near_missing ring pages r from near end a = grind (arith, nat_tests)
-
 -- what is next to be read lies below
 pub next_near : (ring : List ℕ) (pages : Pages) (r : NumberSet) (from near end n : ℕ) → IsApart ring pages r from near end → ContainsRange r from (from + n) → from + n ≤ near
 next_near ring pages r from near end n a came = grind (arith, nat_tests)

@@ -1,7 +1,6 @@
 -- Of private contracts.
 -- A receiving half stores nothing and is kept by its numbers alone, or stands in a box with its assembly.
 use Rattle.qs_recv.specs.Lane.{RecvLane}
-use Rattle.qs_recv.specs.declared.half.Kept.{Kept}
 use Rattle.qs_recv.specs.declared.half.Kept.TheVariants.{Over, Rest}
 use Rattle.qs_recv.specs.declared.half.Parts.{Parts}
 use Rattle.qs_recv.specs.declared.half.Parts.TheVariants as parts

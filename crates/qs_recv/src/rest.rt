@@ -8,7 +8,7 @@ ghost use Rattle.qs_recv.specs.Rest.{EndsAt, IsAtRest, given};
 ghost use Rattle.qs_recv.specs.Peek.{IsPeek};
 ghost use Rattle.qs_recv.specs.News.{is_readable};
 ghost use Rattle.qs_recv.specs.Sound.{CodeFits};
-ghost use Rattle.qs_recv.specs.Lane.{new_lane, highest, highest_after, noted, taken, state, is_whole, is_over, check_stream, check_reset, take_stream, take_reset, read_answer, bytes_read, after_read, stop, stop_and_discard, raise, raise_answer, set_window, MAX_WINDOW};
+ghost use Rattle.qs_recv.specs.Lane.{new_lane, highest, highest_after, noted, taken, state, is_whole, is_over, check_stream, check_reset, take_stream, take_reset, read_answer, bytes_read, after_read, stop, stop_and_discard, raise, raise_answer, raised_limit, set_window, MAX_WINDOW};
 
 use crate::credit::{Share, limit_with, next_limit};
 use crate::half::{Peek, Read, RecvState, Sizes, Standing};
@@ -175,16 +175,23 @@ impl Rest {
         ensures answer { result ≡ raise_answer self.old }
         ensures after { self.new ≡ raise self.old }
     {
-        if self.is_sized {
-            return None;
-        }
-        let windows = self.windows;
-        let next = next_limit(self.limit, self.taken(), windows.size as u64, windows.share);
+        let next = self.raised_limit();
         if next <= self.limit {
             return None;
         }
         self.limit = next;
         Some(next)
+    }
+
+    pub(crate) fn raised_limit(&self) -> u64
+        ensures value { result ≡ raised_limit self.now }
+        ensures small { result ≤ MAX_VARINT }
+    {
+        if self.is_sized {
+            return self.limit;
+        }
+        let windows = self.windows;
+        next_limit(self.limit, self.taken(), windows.size as u64, windows.share)
     }
 
     pub(crate) fn set_window(&mut self, window: u64)

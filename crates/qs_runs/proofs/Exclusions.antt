@@ -174,11 +174,6 @@ payloads w =
       behind = inl (two_frames, refl, record { reads = refl; reads_other = refl; same = refl });
     }
 
--- the number of frames that aren't plain, where the first one is a close
-abbrev closes_with : List Seen → ℕ
-closes_with (Close code ∷ fs) = length fs
-closes_with fs = 2
-
 closes : (w : World) (close : NotedClose) → ClosesThatCome w close
 unfolding effects reading_from frames_at frame_at number_of_type_at body_at number_at varint_at short_len counted_at plain_at
 closes w close = grind (arith, nat_tests)

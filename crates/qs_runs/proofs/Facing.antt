@@ -27,13 +27,6 @@ use Rattle.qs_machine.proofs.Leaves.{acks_leave, frame_leaves}
 use Rattle.qs_runs.proofs.Standing.{fixed, standing_at}
 use Rattle.qs_runs.proofs.Frames.{Effect, MayCome, come_keeps}
 
--- two roles that face each other
-opposite_bits : (x : ℕ) → x < 2 → ((x == 1) ≡ not (x == 0)) × ((x == 0) ≡ not (x == 1))
-opposite_bits x lt = grind (arith, nat_tests)
-
-pub opposite_roles : (n : ℕ) → (is_own_by Server n ≡ not (is_own_by Client n)) × (is_own_by Client n ≡ not (is_own_by Server n))
-opposite_roles n = opposite_bits (n % 4 % 2) (omega arith)
-
 pub facing : (e f : End) → ((n : ℕ) → is_own_by f.role n ≡ not (is_own_by e.role n)) → AreGranted f.peer e.settings → f.known_bidi ≤ e.granted_bidi → f.known_uni ≤ e.granted_uni → Facing e f
 facing e f opposite peer bidi uni = grind (arith, nat_tests)
 

@@ -198,14 +198,6 @@ lane_opened e n r b own is = grind (arith, nat_tests, lookup_open, same_Some)
 
 -- An end opens a stream of its own.
 
-abbrev kind_by : Role → Dir → ℕ
-kind_by r Bidi = role_bit r
-kind_by r Uni = 2 + role_bit r
-
-abbrev is_uni_dir : Dir → Bool
-is_uni_dir Bidi = false
-is_uni_dir Uni = true
-
 pub next_own : (e : End) (d : Dir) → is_own e (next_stream e d) ≡ true
 next_own e d = grind (arith, nat_tests)
 

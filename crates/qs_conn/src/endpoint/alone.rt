@@ -1,8 +1,9 @@
 //! Frames without their packet, for a stack with packet numbers and ACKs of its own.
-ghost use Rattle.std.specs.Prelude.{◌≡◌, ◌<◌, ◌^◌, None, true, map, option_map};
+ghost use Rattle.std.specs.Prelude.{◌≡◌, ◌<◌, ◌^◌, None, true, false, map, option_map};
 ghost use Rattle.qs_wire.specs.Layout.{view};
 ghost use Rattle.qs_wire.specs.Layout as layout;
-ghost use Rattle.qs_machine.specs.Ends.{closes};
+ghost use Rattle.qs_machine.specs.Ends.{closes, opened_by_peer};
+ghost use Rattle.qs_machine.specs.Memory.{IsYetToOpen};
 ghost use Rattle.qs_machine.specs.Seen.{seen};
 ghost use Rattle.qs_machine.specs.Receiving.{closing_at};
 ghost use Rattle.qs_machine.specs.Changes.{is_yet_to_open, item_changes, changes};
@@ -60,7 +61,6 @@ impl Endpoint {
     /// ```text
     /// end.take_stream_frame(stream, offset, bytes, fin)?;
     /// ```
-    #[tactic(auto, using(crate::proofs::Asked::said_again, crate::proofs::Asked::is_taken))]
     pub fn take_stream_frame(
         &mut self,
         stream: StreamId,
@@ -70,18 +70,12 @@ impl Endpoint {
     ) -> Result<Taken, TakeFault>
         ensures { TakeFrameStep self.old (layout.stream stream offset fin bytes.now) result self.new }
     {
-        if let Some(fault) = self.closed_fault() {
-            return Err(fault);
-        }
-        let frame = Frame::Stream {
+        self.take_frame(&Frame::Stream {
             stream,
             offset,
             fin,
             bytes,
-        };
-        let taken = self.take_one(&frame);
-        self.settle();
-        taken
+        })
     }
 
     /// Processes the frames of one packet, each as `take_frame` does, one after the other, but limits move once, as this call ends (RFC
@@ -214,9 +208,12 @@ impl Endpoint {
         }
     }
 
-    // Opening it is a change, whatever else the frame does.
-    fn is_yet_to_open(&self, stream: StreamId) -> bool
-        ensures { result ≡ is_yet_to_open self.now stream }
+    /// A frame that opens it changes the endpoint, whatever else it does.
+    #[tactic(auto, using(crate::proofs::Outboxes::own_stays, crate::proofs::Outboxes::open_stays, crate::proofs::Outboxes::none_in, crate::proofs::Outboxes::none_out))]
+    pub(super) fn is_yet_to_open(&self, stream: StreamId) -> bool
+        ensures value { result ≡ is_yet_to_open self.now stream }
+        ensures yes { result ≡ true → IsYetToOpen self.now stream }
+        ensures no { result ≡ false → opened_by_peer stream self.now ≡ self.now }
     {
         if self.is_own(stream) {
             return false;

@@ -26,30 +26,14 @@ impl Endpoint {
         ensures order { NothingStarves self.old result self.new }
         ensures rest { KeepsRest result out.old out.new }
     {
-        self.make(Fill::all().first, 0, out)
+        self.make_packet_from(Fill::all().first, 0, out)
     }
 
     /// Makes the next packet, as `make_packet` does, with two choices: data goes in from stream `first` on, lower streams first, and then
     /// from those below it; and an ACK carries this delay, in the unit that the peer was given (RFC 9000, sections 2.3, 18.2 and 19.3). A
     /// number instead of an order of all streams, which would need memory, faults and calls of its own.
-    pub fn make_packet_from(
-        &mut self,
-        first: StreamId,
-        delay: u64,
-        out: &mut [u8],
-    ) -> Result<Option<Made>, MakeFault>
-        requires delay { delay < 2 ^ 62 }
-        requires least { 128 ≤ length out.old }
-        requires most { length out.old ≤ 16383 }
-        ensures step { MakeStep self.old first delay (length out.old) result (made_text result out.new) self.new }
-        ensures order { NothingStarves self.old result self.new }
-        ensures rest { KeepsRest result out.old out.new }
-    {
-        self.make(first, delay, out)
-    }
-
     #[inline(always)]
-    fn make(
+    pub fn make_packet_from(
         &mut self,
         first: StreamId,
         delay: u64,

@@ -8,7 +8,7 @@ ghost use Rattle.qs_machine.specs.Credit.{settle};
 ghost use Rattle.qs_machine.specs.Due.{known_count};
 ghost use Rattle.qs_machine.specs.Memory.{IsYetToOpen};
 ghost use Rattle.qs_machine.specs.Outgoing.{with_sends};
-ghost use Rattle.qs_machine.specs.Owner.{OpenStep, AcceptStep, AcceptOfStep, AcceptOpenOf, own_type, peer_type, opened_count, with_wanted};
+ghost use Rattle.qs_machine.specs.Owner.{OpenStep, AcceptStep, AcceptOfStep, own_type, peer_type, opened_count, with_wanted};
 
 use super::{Endpoint, is_uni, role_bit};
 use crate::outbox::Outbox;
@@ -63,36 +63,14 @@ impl Endpoint {
         if self.closed.is_some() {
             return None;
         }
-        match dir {
-            Dir::Bidi => self.accept_bidi(),
-            Dir::Uni => self.accept_uni(),
+        let stream_type = self.peer_type(dir);
+        let count = self.accepted.of(dir);
+        if count >= self.opened_count(stream_type) as u64 {
+            return None;
         }
-    }
-
-    fn accept_bidi(&mut self) -> Option<StreamId>
-        ensures { AcceptOpenOf self.old Dir.Bidi result self.new }
-    {
-        let bidi = self.peer_type(Dir::Bidi);
-        if self.accepted.bidi < self.opened_count(bidi) as u64 {
-            let stream = StreamId::new(self.accepted.bidi * 4 + bidi as u64).unwrap();
-            self.accepted.bidi += 1;
-            self.settle();
-            return Some(stream);
-        }
-        None
-    }
-
-    fn accept_uni(&mut self) -> Option<StreamId>
-        ensures { AcceptOpenOf self.old Dir.Uni result self.new }
-    {
-        let uni = self.peer_type(Dir::Uni);
-        if self.accepted.uni < self.opened_count(uni) as u64 {
-            let stream = StreamId::new(self.accepted.uni * 4 + uni as u64).unwrap();
-            self.accepted.uni += 1;
-            self.settle();
-            return Some(stream);
-        }
-        None
+        self.accepted.set(dir, count + 1);
+        self.settle();
+        Some(StreamId::new(count * 4 + stream_type as u64).unwrap())
     }
 
     // A frame that names a stream of the peer opens it (RFC 9000, section 3.2). Memory is asked for only if it isn't open yet, so a repeat
@@ -102,24 +80,10 @@ impl Endpoint {
         ensures err { OnErr result (self.new ≡ self.old) }
         ensures yet { OnErr result (IsYetToOpen self.old stream) }
     {
-        if self.is_open_here(stream) {
-            return Ok(());
+        if self.is_yet_to_open(stream) {
+            return self.open_stream(stream);
         }
-        self.open_stream(stream)
-    }
-
-    #[tactic(auto, using(crate::proofs::Outboxes::own_stays, crate::proofs::Outboxes::open_stays, crate::proofs::Outboxes::none_in, crate::proofs::Outboxes::none_out))]
-    fn is_open_here(&self, stream: StreamId) -> bool
-        ensures yes { result ≡ true → opened_by_peer stream self.now ≡ self.now }
-        ensures no { result ≡ false → IsYetToOpen self.now stream }
-    {
-        if self.is_own(stream) {
-            return true;
-        }
-        if !self.core.recvs.is_open(stream) {
-            return false;
-        }
-        is_uni(stream) || self.core.outbox.is_open(stream)
+        Ok(())
     }
 
     #[tactic(auto, using(crate::proofs::AckRuns::idle_with))]
@@ -135,20 +99,8 @@ impl Endpoint {
         self.core.outbox.learn_of_open();
         let before = self.core.outbox.count_of(type_of(stream));
         self.core.due.open_to(stream)?;
-        open_sends(
-            &mut self.core.outbox,
-            both(uni, !own),
-            limit,
-            buffer,
-            stream,
-        )?;
-        if let Err(refused) = open_recvs(
-            &mut self.core.recvs,
-            both(uni, own),
-            window,
-            share,
-            stream,
-        ) {
+        open_sends(&mut self.core.outbox, uni & !own, limit, buffer, stream)?;
+        if let Err(refused) = open_recvs(&mut self.core.recvs, uni & own, window, share, stream) {
             self.core.outbox.close_to(stream, before);
             self.is_settled = false;
             return Err(refused);
@@ -235,10 +187,4 @@ fn open_recvs(
         return Ok(());
     }
     recvs.open_to(window, share, stream)
-}
-
-fn both(a: bool, b: bool) -> bool
-    ensures { result ≡ (a && b) }
-{
-    a && b
 }

@@ -7,7 +7,7 @@ ghost use Rattle.qs_machine.specs.Sums.{or_none};
 ghost use Rattle.qs_conn.specs.Sending.{offered, let_go};
 ghost use Rattle.qs_recv.specs.declared.credit.Share.TheVariants as shares;
 ghost use Rattle.qs_machine.specs.Verdicts.{or_new};
-ghost use Rattle.qs_machine.specs.Owner.{WriteStep, FinishStep, ResetStep, StopStep, StopAndDiscardStep, ReadStep, ConsumeStep, is_read_no_more, is_end, no_half, use_fault};
+ghost use Rattle.qs_machine.specs.Owner.{WriteStep, FinishStep, ResetStep, StopStep, StopAndDiscardStep, ReadStep, ConsumeStep, is_read_no_more, no_half, use_fault};
 ghost use Rattle.qs_machine.specs.Reports.{lane_report, own_closing};
 ghost use Rattle.qs_conn.specs.Layers.{no_sender, no_receiver};
 
@@ -155,7 +155,7 @@ impl Endpoint {
         self.settle();
         Ok(Consumed {
             read,
-            at_end: is_end(next),
+            at_end: matches!(next, Read::End),
         })
     }
 
@@ -182,7 +182,7 @@ impl Endpoint {
         requires { code < 2 ^ 62 }
         ensures { StopStep self.old stream code result self.new }
     {
-        if let Some(fault) = self.no_receiver(stream) {
+        if let Some(fault) = self.no_receiver(self.closed.is_some(), stream) {
             return Err(fault);
         }
         let was = self.core.recvs.stop_to_tell(stream);
@@ -207,7 +207,7 @@ impl Endpoint {
         requires { code < 2 ^ 62 }
         ensures { StopAndDiscardStep self.old stream code result self.new }
     {
-        if let Some(fault) = self.no_receiver(stream) {
+        if let Some(fault) = self.no_receiver(self.closed.is_some(), stream) {
             return Err(fault);
         }
         let was = self.core.is_over(stream);
@@ -266,16 +266,10 @@ impl Endpoint {
     pub(super) fn no_reader(&self, stream: StreamId) -> Option<UseFault>
         ensures { result ≡ no_receiver (is_read_no_more self.now) self.now stream }
     {
-        self.no_receiver_where(self.is_read_no_more(), stream)
+        self.no_receiver(self.is_read_no_more(), stream)
     }
 
-    fn no_receiver(&self, stream: StreamId) -> Option<UseFault>
-        ensures { result ≡ no_receiver (is_some self.now.closed) self.now stream }
-    {
-        self.no_receiver_where(self.closed.is_some(), stream)
-    }
-
-    fn no_receiver_where(&self, is_shut: bool, stream: StreamId) -> Option<UseFault>
+    fn no_receiver(&self, is_shut: bool, stream: StreamId) -> Option<UseFault>
         ensures { result ≡ no_receiver is_shut self.now stream }
     {
         if is_shut {
@@ -292,12 +286,6 @@ impl Endpoint {
     {
         self.closed.is_some() && !self.core.limits.tuning.reads_when_closed
     }
-}
-
-fn is_end(read: Read) -> bool
-    ensures { result ≡ is_end read }
-{
-    matches!(read, Read::End)
 }
 
 fn no_half(other: bool) -> UseFault

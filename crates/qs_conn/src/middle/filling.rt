@@ -12,7 +12,7 @@ ghost use Rattle.qs_machine.specs.Ends.{End};
 ghost use Rattle.qs_machine.specs.Filling.{IsAsked};
 ghost use Rattle.qs_conn.specs.declared.filling.Wish.{Wish};
 ghost use Rattle.qs_conn.specs.Middle.{IsCore, IsFilling, FillsOn, HasMemory, HoldsAtMost, IsStill, own_items, end_of};
-ghost use Rattle.qs_conn.specs.Filling.{slot_at, Passed, HasPassedTo, HasPassedKinds, kind_place, no_slot, and_slot, and_kind, all_items, Stage, Flow, PackedBy, IsAckLeft, InPacket, turn_at, start_of, way_end, IsOnWay};
+ghost use Rattle.qs_conn.specs.Filling.{slot_at, slot_place, slot_past, kind_first, kind_past, no_slot, all_items, Stage, Flow, PackedBy, IsAckLeft, InPacket, turn_at, start_of, way_end, IsOnWay};
 ghost use Rattle.qs_conn.specs.Marks.{IsBefore, IsIdle};
 ghost use Rattle.qs_conn.specs.Tasks.{IsOpen};
 
@@ -22,7 +22,7 @@ use crate::filling::{
     Course, LEAST_STREAM_FRAME, Packet, Wish, cut_to, full_at, put_ack_if, put_chunk, put_item,
 };
 use crate::outbox::Outbox;
-use crate::own_carried::OWN_ITEMS;
+use crate::own_told::OWN_ITEMS;
 use crate::send_marks::Task;
 use crate::slot::{Kind, Slot};
 use qs_ranges::RangeSet;
@@ -112,9 +112,9 @@ impl Core {
     fn put_kind(&mut self, kind: Kind, out: &mut [u8], packet: Packet) -> Packet
         requires filling { IsFilling self.old out.old packet.len }
         requires memory { HasMemory self.old (length out.old) packet.len 0 }
-        ensures stage { (wish : Wish) (room : ℕ) (old e : End) (passed : Passed) → room ≡ length out.old → HasPassedKinds passed (kind_place kind)
-            → Stage wish room old (take packet.len out.old) (end_of self.old e) packet.is_full passed
-            → Stage wish room old (take result.len out.new) (end_of self.new e) result.is_full (and_kind passed kind) }
+        ensures stage { (wish : Wish) (room : ℕ) (old e : End) → room ≡ length out.old
+            → Stage wish room old (take packet.len out.old) (end_of self.old e) packet.is_full (kind_first kind)
+            → Stage wish room old (take result.len out.new) (end_of self.new e) result.is_full (kind_past kind) }
         ensures filled { FillsOn self.old out.old packet.len self.new out.new result.len 0 }
     {
         if self.may_tell(kind) {
@@ -129,9 +129,9 @@ impl Core {
     fn put_marked(&mut self, kind: Kind, out: &mut [u8], packet: Packet) -> Packet
         requires filling { IsFilling self.old out.old packet.len }
         requires memory { HasMemory self.old (length out.old) packet.len 0 }
-        ensures stage { (wish : Wish) (room : ℕ) (old e : End) (passed : Passed) → room ≡ length out.old → HasPassedKinds passed (kind_place kind)
-            → Stage wish room old (take packet.len out.old) (end_of self.old e) packet.is_full passed
-            → Stage wish room old (take result.len out.new) (end_of self.new e) result.is_full (and_kind passed kind) }
+        ensures stage { (wish : Wish) (room : ℕ) (old e : End) → room ≡ length out.old
+            → Stage wish room old (take packet.len out.old) (end_of self.old e) packet.is_full (kind_first kind)
+            → Stage wish room old (take result.len out.new) (end_of self.new e) result.is_full (kind_past kind) }
         ensures filled { FillsOn self.old out.old packet.len self.new out.new result.len 0 }
     {
         if packet.is_full {
@@ -174,9 +174,9 @@ impl Core {
         requires own { own_items slot ≡ 1 }
         requires filling { IsFilling self.old out.old packet.len }
         requires memory { HasMemory self.old (length out.old) packet.len 1 }
-        ensures stage { (wish : Wish) (room : ℕ) (old e : End) (passed : Passed) → room ≡ length out.old → HasPassedTo passed slot
-            → Stage wish room old (take packet.len out.old) (end_of self.old e) packet.is_full passed
-            → Stage wish room old (take result.len out.new) (end_of self.new e) result.is_full (and_slot passed slot) }
+        ensures stage { (wish : Wish) (room : ℕ) (old e : End) → room ≡ length out.old
+            → Stage wish room old (take packet.len out.old) (end_of self.old e) packet.is_full (slot_place slot)
+            → Stage wish room old (take result.len out.new) (end_of self.new e) result.is_full (slot_past slot) }
         ensures filled { FillsOn self.old out.old packet.len self.new out.new result.len 1 }
     {
         if self.limits.has_told(&self.outbox, &self.own, &slot) {
@@ -190,9 +190,9 @@ impl Core {
         requires marked { IsMarkedAt self.old.due slot }
         requires filling { IsFilling self.old out.old packet.len }
         requires memory { HasMemory self.old (length out.old) packet.len (own_items slot) }
-        ensures stage { (wish : Wish) (room : ℕ) (old e : End) (passed : Passed) → room ≡ length out.old → HasPassedTo passed slot
-            → Stage wish room old (take packet.len out.old) (end_of self.old e) packet.is_full passed
-            → Stage wish room old (take result.len out.new) (end_of self.new e) result.is_full (and_slot passed slot) }
+        ensures stage { (wish : Wish) (room : ℕ) (old e : End) → room ≡ length out.old
+            → Stage wish room old (take packet.len out.old) (end_of self.old e) packet.is_full (slot_place slot)
+            → Stage wish room old (take result.len out.new) (end_of self.new e) result.is_full (slot_past slot) }
         ensures filled { FillsOn self.old out.old packet.len self.new out.new result.len (own_items slot) }
         ensures idle { result.is_full ≡ false → (e : End) → IsIdle (end_of self.new e) slot }
     {

@@ -6,7 +6,7 @@ ghost use Rattle.qs_send.specs.Lane.{allow_lane};
 ghost use Rattle.qs_machine.specs.Tables.{lookup, updated};
 ghost use Rattle.qs_machine.specs.Outgoing.{on_lane};
 ghost use Rattle.qs_conn.specs.Due.{IsBlockedBy, IsNotedBlock, item_marked, due_without, is_present, is_same, limits_by, put_mark, recv_limit};
-ghost use Rattle.qs_conn.specs.OwnCarried.{own_with, own_left};
+ghost use Rattle.qs_conn.specs.OwnTold.{own_with, own_left};
 ghost use Rattle.qs_conn.specs.Middle.{IsAtRest, KeepsStreams};
 
 use super::Core;

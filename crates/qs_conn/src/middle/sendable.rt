@@ -3,7 +3,7 @@ ghost use Rattle.std.specs.Prelude.{◌≡◌};
 ghost use Rattle.qs_machine.specs.Ends.{End};
 ghost use Rattle.qs_machine.specs.Filling.{still_asked};
 ghost use Rattle.qs_conn.specs.Middle.{IsCore, end_of, own_items};
-ghost use Rattle.qs_conn.specs.Filling.{Passed, and_slot, and_kind, all_items};
+ghost use Rattle.qs_conn.specs.Filling.{slot_place, slot_past, kind_first, kind_past, all_items};
 ghost use Rattle.qs_conn.specs.Due.{IsMarkedAt};
 ghost use Rattle.qs_conn.specs.Sending.{TellsDue, TellsGoing, TellsAnyGoing, TellsFrame, TellsItem, TellsStream, TellsWanted};
 
@@ -85,10 +85,9 @@ impl Core {
 
     // Mostly a look at how many marks there are shows that none is due.
     #[inline(always)]
-    #[tactic(auto, using(crate::proofs::Stages::adds_none, crate::proofs::MadePackets::tells_more))]
     fn has_kind(&self, kind: Kind, is_found: bool) -> bool
         requires { IsCore self.now }
-        ensures { (e : End) (passed : Passed) → TellsDue is_found (end_of self.now e) passed → TellsDue result (end_of self.now e) (and_kind passed kind) }
+        ensures { (e : End) → TellsDue is_found (end_of self.now e) (kind_first kind) → TellsDue result (end_of self.now e) (kind_past kind) }
     {
         if self.may_tell(kind) {
             return self.has_marked(kind, is_found);
@@ -99,7 +98,7 @@ impl Core {
     #[inline(never)]
     fn has_marked(&self, kind: Kind, is_found: bool) -> bool
         requires { IsCore self.now }
-        ensures { (e : End) (passed : Passed) → TellsDue is_found (end_of self.now e) passed → TellsDue result (end_of self.now e) (and_kind passed kind) }
+        ensures { (e : End) → TellsDue is_found (end_of self.now e) (kind_first kind) → TellsDue result (end_of self.now e) (kind_past kind) }
     {
         let mut is_found = is_found;
         let mut from = 0;
@@ -118,7 +117,7 @@ impl Core {
     fn has_own_slot(&self, slot: Slot, is_found: bool) -> bool
         requires core { IsCore self.now }
         requires own { own_items slot ≡ 1 }
-        ensures { (e : End) (passed : Passed) → TellsDue is_found (end_of self.now e) passed → TellsDue result (end_of self.now e) (and_slot passed slot) }
+        ensures { (e : End) → TellsDue is_found (end_of self.now e) (slot_place slot) → TellsDue result (end_of self.now e) (slot_past slot) }
     {
         if is_found {
             return true;
@@ -132,7 +131,7 @@ impl Core {
     fn has_slot(&self, slot: Slot, is_found: bool) -> bool
         requires core { IsCore self.now }
         requires marked { IsMarkedAt self.now.due slot }
-        ensures { (e : End) (passed : Passed) → TellsDue is_found (end_of self.now e) passed → TellsDue result (end_of self.now e) (and_slot passed slot) }
+        ensures { (e : End) → TellsDue is_found (end_of self.now e) (slot_place slot) → TellsDue result (end_of self.now e) (slot_past slot) }
     {
         if is_found {
             return true;

@@ -7,7 +7,7 @@ use crate::proved::qs_conn::held::Held;
 use crate::proved::qs_conn::limits::Limits;
 use crate::proved::qs_conn::middle::Core;
 use crate::proved::qs_conn::outbox::Outbox;
-use crate::proved::qs_conn::own_carried::OwnCarried;
+use crate::proved::qs_conn::own_told::OwnTold;
 use crate::proved::qs_conn::places::type_of;
 use crate::proved::qs_conn::recv_tables::RecvTables;
 use crate::proved::qs_conn::setup::{setup_fault, wide_setup_fault};
@@ -113,7 +113,7 @@ impl Endpoint {
                 outbox: Outbox::new(alloc),
                 recvs: RecvTables::new(alloc),
                 due: Due::new(alloc),
-                own: OwnCarried::new(),
+                own: OwnTold::new(),
                 ended: ByDir::new(0, 0),
             },
             peer,

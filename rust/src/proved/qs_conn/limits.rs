@@ -4,7 +4,7 @@
 use crate::proved::qs_conn::by_dir::ByDir;
 use crate::proved::qs_conn::endpoint::{is_uni, role_bit};
 use crate::proved::qs_conn::outbox::Outbox;
-use crate::proved::qs_conn::own_carried::OwnCarried;
+use crate::proved::qs_conn::own_told::OwnTold;
 use crate::proved::qs_conn::places::type_of;
 use crate::proved::qs_conn::recv_tables::RecvTables;
 use crate::proved::qs_conn::send_marks::Task;
@@ -50,7 +50,7 @@ impl Limits {
 
     /// Whether a look at few numbers shows that no item is due, as is mostly so: then no half is looked at.
     #[inline(always)]
-    pub(crate) fn has_told(&self, outbox: &Outbox, own: &OwnCarried, slot: &Slot) -> bool {
+    pub(crate) fn has_told(&self, outbox: &Outbox, own: &OwnTold, slot: &Slot) -> bool {
         match *slot {
             Slot::MaxData => own.has_told(self.max_data()),
             Slot::MaxStreams(dir) => own.has_told(self.max_streams(dir)),
@@ -62,7 +62,7 @@ impl Limits {
 
     // No stream is looked at.
     #[inline(always)]
-    fn has_told_blocked(&self, outbox: &Outbox, own: &OwnCarried) -> bool {
+    fn has_told_blocked(&self, outbox: &Outbox, own: &OwnTold) -> bool {
         if outbox.sent_sum() < self.known_data {
             return true;
         }
@@ -85,28 +85,14 @@ impl Limits {
     /// A greater grant moves the count at once (RFC 9000, section 4.6).
     #[inline]
     pub(crate) fn set_grant(&mut self, dir: Dir, streams: u64, ended: u64) {
-        match dir {
-            Dir::Bidi => {
-                self.granted_streams.bidi = count_with(
-                    self.grants.bidi,
-                    self.granted_streams.bidi,
-                    self.settings.lifetime_bidi,
-                    ended,
-                    streams,
-                );
-                self.grants.bidi = streams;
-            }
-            Dir::Uni => {
-                self.granted_streams.uni = count_with(
-                    self.grants.uni,
-                    self.granted_streams.uni,
-                    self.settings.lifetime_uni,
-                    ended,
-                    streams,
-                );
-                self.grants.uni = streams;
-            }
-        }
+        let lifetime = match dir {
+            Dir::Bidi => self.settings.lifetime_bidi,
+            Dir::Uni => self.settings.lifetime_uni,
+        };
+        let granted = self.granted_streams.of(dir);
+        let count = count_with(self.grants.of(dir), granted, lifetime, ended, streams);
+        self.granted_streams.set(dir, count);
+        self.grants.set(dir, streams);
     }
 
     // Once it was raised: the first limit was in the handshake.

@@ -153,7 +153,8 @@ impl Marks {
         numbered(stream_type, search(0, self.marks.words(), &summary, &row))
     }
 
-    /// The least stream of a type from a number on with both marks that wasn't told. If only these marks count, they are both, so that one search serves all.
+    /// The least stream of a type from a number on with both marks that wasn't told. If only these marks count, they are both, so that one
+    /// search serves all.
     #[inline(always)]
     pub(crate) fn next_untold(
         &self,

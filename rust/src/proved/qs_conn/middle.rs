@@ -6,7 +6,7 @@ use crate::proved::qs_conn::due::Due;
 use crate::proved::qs_conn::endpoint::{is_uni, role_bit};
 use crate::proved::qs_conn::limits::Limits;
 use crate::proved::qs_conn::outbox::Outbox;
-use crate::proved::qs_conn::own_carried::OwnCarried;
+use crate::proved::qs_conn::own_told::OwnTold;
 use crate::proved::qs_conn::places::type_of;
 use crate::proved::qs_conn::recv_tables::RecvTables;
 use crate::proved::qs_wire::StreamId;
@@ -24,7 +24,7 @@ pub(crate) struct Core {
     pub outbox: Outbox,
     pub recvs: RecvTables,
     pub due: Due,
-    pub own: OwnCarried,
+    pub own: OwnTold,
     pub ended: ByDir<u64>,
 }
 

@@ -5,7 +5,6 @@ use crate::proved::qs_conn::holds::{Holds, sum_held};
 use crate::proved::qs_conn::marks::Marks;
 use crate::proved::qs_conn::recv_marks::{RecvMarks, RecvTask};
 use crate::proved::qs_conn::stream_marks::StreamMarks;
-use crate::proved::qs_conn::touches::Touches;
 use crate::proved::qs_machine::Tally;
 use crate::proved::qs_ranges::NoMemory;
 use crate::proved::qs_recv::{RecvHalf, RingAssembly, Share};
@@ -21,8 +20,8 @@ pub(crate) struct RecvLanes {
     halves: Vec<Half>,
     // Modulo 2^64: whoever asks for the sums knows that they fit.
     tally: Tally,
-    // Limits are raised for these alone, as each call ends.
-    touched: Touches,
+    // Each whose limit rises as the call ends, and no limit rises else.
+    rising: Marks,
     news: RecvMarks,
 }
 
@@ -38,7 +37,7 @@ impl RecvLanes {
                 stored: 0,
                 noted: 0,
             },
-            touched: Touches::new(alloc),
+            rising: Marks::new(alloc),
             news: RecvMarks::new(alloc),
         }
     }
@@ -84,7 +83,7 @@ impl RecvLanes {
         debug_assert!(1 <= window);
         debug_assert!(window <= 1 << 30);
         let index = self.halves.len();
-        self.touched.make_room(index)?;
+        self.rising.make_room(index)?;
         self.news.make_room(index)?;
         let fresh: Half = RecvHalf::new(self.alloc, window, share)?;
         self.halves.push(fresh)?;
@@ -97,8 +96,7 @@ impl RecvLanes {
         self.news.clear_from(count);
     }
 
-    /// Changes an open lane: the one way in. The sums, the marks and what is to be looked at again follow. Memory that the change fills is
-    /// handed through.
+    /// Changes an open lane: the one way in. The sums and the marks follow. Memory that the change fills is handed through.
     #[inline]
     pub(crate) fn edit<R, F: FnOnce(&mut Half, &mut [u8]) -> R>(
         &mut self,
@@ -112,18 +110,18 @@ impl RecvLanes {
         let is = measure(half);
         self.news.look(index, half);
         self.tally = moved(self.tally, was, is);
-        self.touched.look(index, was.taken, is.taken);
+        mark_rise(&mut self.rising, index, half, was.taken, is.taken);
         answer
     }
 
-    /// Only lanes that were touched are looked at. A stream whose limit rises is marked: the new one is in no packet yet.
+    /// A stream whose limit rises is marked: the new one is in no packet yet.
     #[inline]
     pub(crate) fn raise_all(&mut self, stream_type: usize, limits: &mut StreamMarks) {
         debug_assert!(stream_type < 4);
-        if self.touched.is_none() {
+        if !self.rising.may_have() {
             return;
         }
-        raise_touched(&mut self.halves, &mut self.touched, stream_type, limits);
+        raise_marked(&mut self.halves, &mut self.rising, stream_type, limits);
     }
 
     /// The marks of the lanes that have such an answer for their owner.
@@ -156,6 +154,14 @@ fn measure(half: &Half) -> Tally {
     }
 }
 
+// Mostly no more is taken of the lane, and its limit stays.
+#[inline(always)]
+fn mark_rise(rising: &mut Marks, index: usize, half: &Half, was: u64, is: u64) {
+    if was != is {
+        rising.set(index, half.rises());
+    }
+}
+
 // The sums once a lane's part became another, modulo 2^64.
 fn moved(total: Tally, was: Tally, is: Tally) -> Tally {
     Tally {
@@ -169,16 +175,17 @@ fn moved(total: Tally, was: Tally, is: Tally) -> Tally {
     }
 }
 
-// Apart, so that a call that touched nothing pays for one look.
+// Apart, so that a call after which no limit rises pays for one look.
 #[inline(never)]
-fn raise_touched(
+fn raise_marked(
     halves: &mut Vec<Half>,
-    touched: &mut Touches,
+    rising: &mut Marks,
     stream_type: usize,
     limits: &mut StreamMarks,
 ) {
     debug_assert!(stream_type < 4);
-    while let Some(index) = touched.pop() {
+    while let Some(index) = rising.next(0) {
+        rising.set(index, false);
         if index < halves.len() {
             raise_at(halves, index, stream_type, limits);
         }

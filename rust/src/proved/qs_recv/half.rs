@@ -314,6 +314,19 @@ impl<A: Assembly> RecvHalf<A> {
         }
     }
 
+    /// Whether `raise` would raise the limit.
+    #[inline]
+    pub fn rises(&self) -> bool {
+        match &self.parts {
+            Parts::Kept(Kept::Over(over)) => {
+                over.is_over();
+                false
+            }
+            Parts::Kept(Kept::Rest(rest)) => rest.limit() < rest.raised_limit(),
+            Parts::Live(live) => live.limit() < live.raised_limit(),
+        }
+    }
+
     /// Sets another window (section 4.2): a greater one raises the limit at once, even by less than the half's share, and under a smaller
     /// one the limit stays until enough is consumed. Once the final size is known it stays.
     #[inline]

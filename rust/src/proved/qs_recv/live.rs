@@ -259,16 +259,21 @@ impl<A: Assembly> LiveHalf<A> {
 
     #[inline]
     pub(crate) fn raise(&mut self) -> Option<u64> {
-        if self.is_sized {
-            return None;
-        }
-        let windows = self.windows;
-        let next = next_limit(self.limit, self.taken(), windows.size as u64, windows.share);
+        let next = self.raised_limit();
         if next <= self.limit {
             return None;
         }
         self.limit = next;
         Some(next)
+    }
+
+    #[inline]
+    pub(crate) fn raised_limit(&self) -> u64 {
+        if self.is_sized {
+            return self.limit;
+        }
+        let windows = self.windows;
+        next_limit(self.limit, self.taken(), windows.size as u64, windows.share)
     }
 
     #[inline]

@@ -58,18 +58,12 @@ impl Endpoint {
         bytes: &[u8],
         fin: bool,
     ) -> Result<Taken, TakeFault> {
-        if let Some(fault) = self.closed_fault() {
-            return Err(fault);
-        }
-        let frame = Frame::Stream {
+        self.take_frame(&Frame::Stream {
             stream,
             offset,
             fin,
             bytes,
-        };
-        let taken = self.take_one(&frame);
-        self.settle();
-        taken
+        })
     }
 
     /// Processes the frames of one packet, each as `take_frame` does, one after the other, but limits move once, as this call ends (RFC
@@ -185,8 +179,9 @@ impl Endpoint {
         }
     }
 
-    // Opening it is a change, whatever else the frame does.
-    fn is_yet_to_open(&self, stream: StreamId) -> bool {
+    /// A frame that opens it changes the endpoint, whatever else it does.
+    #[inline]
+    pub(super) fn is_yet_to_open(&self, stream: StreamId) -> bool {
         if self.is_own(stream) {
             return false;
         }

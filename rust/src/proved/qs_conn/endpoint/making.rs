@@ -17,27 +17,14 @@ impl Endpoint {
     pub fn make_packet(&mut self, out: &mut [u8]) -> Result<Option<Made>, MakeFault> {
         debug_assert!(128 <= out.len());
         debug_assert!(out.len() <= 16383);
-        self.make(Fill::all().first, 0, out)
+        self.make_packet_from(Fill::all().first, 0, out)
     }
 
     /// Makes the next packet, as `make_packet` does, with two choices: data goes in from stream `first` on, lower streams first, and then
     /// from those below it; and an ACK carries this delay, in the unit that the peer was given (RFC 9000, sections 2.3, 18.2 and 19.3). A
     /// number instead of an order of all streams, which would need memory, faults and calls of its own.
-    #[inline]
-    pub fn make_packet_from(
-        &mut self,
-        first: StreamId,
-        delay: u64,
-        out: &mut [u8],
-    ) -> Result<Option<Made>, MakeFault> {
-        debug_assert!(delay < 1 << 62);
-        debug_assert!(128 <= out.len());
-        debug_assert!(out.len() <= 16383);
-        self.make(first, delay, out)
-    }
-
     #[inline(always)]
-    fn make(
+    pub fn make_packet_from(
         &mut self,
         first: StreamId,
         delay: u64,

@@ -48,52 +48,24 @@ impl Endpoint {
         if self.closed.is_some() {
             return None;
         }
-        match dir {
-            Dir::Bidi => self.accept_bidi(),
-            Dir::Uni => self.accept_uni(),
+        let stream_type = self.peer_type(dir);
+        let count = self.accepted.of(dir);
+        if count >= self.opened_count(stream_type) as u64 {
+            return None;
         }
-    }
-
-    fn accept_bidi(&mut self) -> Option<StreamId> {
-        let bidi = self.peer_type(Dir::Bidi);
-        if self.accepted.bidi < self.opened_count(bidi) as u64 {
-            let stream = StreamId::new(self.accepted.bidi * 4 + bidi as u64).unwrap();
-            self.accepted.bidi += 1;
-            self.settle();
-            return Some(stream);
-        }
-        None
-    }
-
-    fn accept_uni(&mut self) -> Option<StreamId> {
-        let uni = self.peer_type(Dir::Uni);
-        if self.accepted.uni < self.opened_count(uni) as u64 {
-            let stream = StreamId::new(self.accepted.uni * 4 + uni as u64).unwrap();
-            self.accepted.uni += 1;
-            self.settle();
-            return Some(stream);
-        }
-        None
+        self.accepted.set(dir, count + 1);
+        self.settle();
+        Some(StreamId::new(count * 4 + stream_type as u64).unwrap())
     }
 
     // A frame that names a stream of the peer opens it (RFC 9000, section 3.2). Memory is asked for only if it isn't open yet, so a repeat
     // needs none.
     #[inline]
     pub(super) fn open_by_peer(&mut self, stream: StreamId) -> Result<(), NoMemory> {
-        if self.is_open_here(stream) {
-            return Ok(());
+        if self.is_yet_to_open(stream) {
+            return self.open_stream(stream);
         }
-        self.open_stream(stream)
-    }
-
-    fn is_open_here(&self, stream: StreamId) -> bool {
-        if self.is_own(stream) {
-            return true;
-        }
-        if !self.core.recvs.is_open(stream) {
-            return false;
-        }
-        is_uni(stream) || self.core.outbox.is_open(stream)
+        Ok(())
     }
 
     fn open_stream(&mut self, stream: StreamId) -> Result<(), NoMemory> {
@@ -104,20 +76,8 @@ impl Endpoint {
         let buffer = self.send_buffer();
         let before = self.core.outbox.count_of(type_of(stream));
         self.core.due.open_to(stream)?;
-        open_sends(
-            &mut self.core.outbox,
-            both(uni, !own),
-            limit,
-            buffer,
-            stream,
-        )?;
-        if let Err(refused) = open_recvs(
-            &mut self.core.recvs,
-            both(uni, own),
-            window,
-            share,
-            stream,
-        ) {
+        open_sends(&mut self.core.outbox, uni & !own, limit, buffer, stream)?;
+        if let Err(refused) = open_recvs(&mut self.core.recvs, uni & own, window, share, stream) {
             self.core.outbox.close_to(stream, before);
             self.is_settled = false;
             return Err(refused);
@@ -188,8 +148,4 @@ fn open_recvs(
         return Ok(());
     }
     recvs.open_to(window, share, stream)
-}
-
-fn both(a: bool, b: bool) -> bool {
-    a && b
 }

@@ -128,7 +128,7 @@ impl Endpoint {
         self.settle();
         Ok(Consumed {
             read,
-            at_end: is_end(next),
+            at_end: matches!(next, Read::End),
         })
     }
 
@@ -149,7 +149,7 @@ impl Endpoint {
     #[inline]
     pub fn stop(&mut self, stream: StreamId, code: u64) -> Result<(), UseFault> {
         debug_assert!(code < 1 << 62);
-        if let Some(fault) = self.no_receiver(stream) {
+        if let Some(fault) = self.no_receiver(self.closed.is_some(), stream) {
             return Err(fault);
         }
         let was = self.core.recvs.stop_to_tell(stream);
@@ -172,7 +172,7 @@ impl Endpoint {
     #[inline]
     pub fn stop_and_discard(&mut self, stream: StreamId, code: u64) -> Result<(), UseFault> {
         debug_assert!(code < 1 << 62);
-        if let Some(fault) = self.no_receiver(stream) {
+        if let Some(fault) = self.no_receiver(self.closed.is_some(), stream) {
             return Err(fault);
         }
         let was = self.core.is_over(stream);
@@ -226,14 +226,10 @@ impl Endpoint {
 
     #[inline]
     pub(super) fn no_reader(&self, stream: StreamId) -> Option<UseFault> {
-        self.no_receiver_where(self.is_read_no_more(), stream)
+        self.no_receiver(self.is_read_no_more(), stream)
     }
 
-    fn no_receiver(&self, stream: StreamId) -> Option<UseFault> {
-        self.no_receiver_where(self.closed.is_some(), stream)
-    }
-
-    fn no_receiver_where(&self, is_shut: bool, stream: StreamId) -> Option<UseFault> {
+    fn no_receiver(&self, is_shut: bool, stream: StreamId) -> Option<UseFault> {
         if is_shut {
             Some(UseFault::Closed)
         } else if self.core.recvs.is_open(stream) {
@@ -247,10 +243,6 @@ impl Endpoint {
     pub(super) fn is_read_no_more(&self) -> bool {
         self.closed.is_some() && !self.core.limits.tuning.reads_when_closed
     }
-}
-
-fn is_end(read: Read) -> bool {
-    matches!(read, Read::End)
 }
 
 fn no_half(other: bool) -> UseFault {

@@ -7,7 +7,7 @@ use crate::proved::qs_conn::filling::{
     Course, LEAST_STREAM_FRAME, Packet, Wish, cut_to, full_at, put_ack_if, put_chunk, put_item,
 };
 use crate::proved::qs_conn::outbox::Outbox;
-use crate::proved::qs_conn::own_carried::OWN_ITEMS;
+use crate::proved::qs_conn::own_told::OWN_ITEMS;
 use crate::proved::qs_conn::send_marks::Task;
 use crate::proved::qs_conn::slot::{Kind, Slot};
 use crate::proved::qs_ranges::RangeSet;

@@ -17,7 +17,7 @@ use Rattle.qs_machine.specs.Outgoing.{Outgoing, no_packets, sent_sum}
 use Rattle.qs_conn.specs.declared.by_dir.ByDir.{ByDir}
 use Rattle.qs_conn.specs.Middle.{IsKept}
 use Rattle.qs_conn.specs.declared.due.Due.{Due}
-use Rattle.qs_conn.specs.OwnCarried.{Kept}
+use Rattle.qs_conn.specs.OwnTold.{Kept}
 use Rattle.qs_conn.proofs.DuePackets.{due_none, nothing_put}
 use Rattle.qs_conn.proofs.Owns.{own_new}
 use Rattle.qs_conn.proofs.Cores.{fit_new}

@@ -16,7 +16,7 @@ use Rattle.qs_conn.proofs.DuePackets.{packets_at, due_before}
 use Rattle.qs_conn.proofs.AckRuns.{idle_with}
 use Rattle.qs_machine.proofs.Taken.{in_there, stream_in, stream_checked, stream_unchanged, stream_sound, sends_back, recvs_back, tally_back, restored_out, peer_none, peer_lost, peer_unsent, back_sound}
 use Rattle.qs_conn.specs.Due.{AreDue, packets_of}
-use Rattle.qs_conn.specs.OwnCarried.{AreOwn}
+use Rattle.qs_conn.specs.OwnTold.{AreOwn}
 use Rattle.qs_machine.specs.Asking.{kept_on}
 use Rattle.qs_conn.specs.Promised.{promised_on}
 use Rattle.qs_conn.proofs.Tasks.{peer_unwritten}

@@ -48,7 +48,7 @@ invariant_of-self-in_err-open_sends c =
     (kept_streams _ _ _ _ _ _ c.self.invariant _ (rest_placed core c.self.invariant.rest c.open_to.new.self (wide_all c.args.stream core.due c.open_to.new.self c.in_ok-open_to.ensures.ok)) (record { limits = refl; recvs = refl }) refl)
 
 pub returns-clause-ok : goal.returns-clause-ok
-returns-clause-ok c = rw (c.in_ok-open_sends.ensures.ok, c.in_default.ensures.ok, c.both.ensures, c.both-2.ensures, c.is_uni-uni.ensures, c.is_own-own.ensures, c.first_send_limit-limit.ensures.value, c.window-window.ensures.value, c.send_buffer-buffer.ensures, ← c.self.view_is) refl
+returns-clause-ok c = rw (c.in_ok-open_sends.ensures.ok, c.in_default.ensures.ok, c.is_uni-uni.ensures, c.is_own-own.ensures, c.first_send_limit-limit.ensures.value, c.window-window.ensures.value, c.send_buffer-buffer.ensures, ← c.self.view_is) refl
 
 pub invariant_of-self : goal.invariant_of-self
 invariant_of-self c = kept_streams _ _ _ _ _ _ c.self.invariant _ (rest_placed c.self.inside.core c.self.invariant.rest c.open_to.new.self c.in_err-open_to.ensures.err) (record { limits = refl; recvs = refl }) refl

@@ -1,7 +1,7 @@
 use Rattle.std.proofs.Common.{◌-◌, ◌≤◌, ◌^◌}
 use Rattle.qs_machine.specs.Ends.{End}
 use Rattle.qs_conn.specs.Middle.{end_of}
-use Rattle.qs_conn.specs.Filling.{Passed, and_below}
+use Rattle.qs_conn.specs.Filling.{kind_first, slot_at, slot_place}
 use Rattle.qs_conn.specs.Sending.{TellsDue}
 use Rattle.qs_conn.proofs.middle.Core.has_marked.Given as goal
 
@@ -9,7 +9,7 @@ abbrev pub invariant-loop-stream : goal.invariant-loop-stream
 invariant-loop-stream l =
     record {
       small : l.from ≤ 2 ^ 62;
-      due : (e : End) (passed : Passed) → TellsDue l.fn.is_found (end_of l.fn.self e) passed → TellsDue l.is_found (end_of l.fn.self e) (and_below passed l.fn.kind l.from);
+      due : (e : End) → TellsDue l.fn.is_found (end_of l.fn.self e) (kind_first l.fn.kind) → TellsDue l.is_found (end_of l.fn.self e) (slot_place (slot_at l.fn.kind l.from));
     }
 
 abbrev pub decreases-loop-stream : goal.decreases-loop-stream

@@ -1,28 +1,25 @@
 use Rattle.std.proofs.Common.{◌≡◌, ◌+◌, ◌∙◌, arith, sym, ap, refl, subst, length, take, rules}
 use Rattle.qs_conn.specs.Middle.{HasMemory, own_items, end_of}
-use Rattle.qs_conn.specs.Filling.{slot_at, and_slot, and_kind, and_below}
+use Rattle.qs_conn.specs.Filling.{slot_at, slot_place, kind_past, Stage}
 use Rattle.qs_conn.proofs.Cores.{core_cleared, fills_same, fills_on, fills_within, fills_marks}
 use Rattle.qs_conn.proofs.Owns.{marked_at}
 use Rattle.qs_machine.specs.Ends.{End}
 use Rattle.qs_conn.specs.Marks.{IsIdle}
-use Rattle.qs_conn.proofs.Stages.{passed_below, adds_first, adds_below, adds_kind, adds_next}
+use Rattle.qs_conn.proofs.Stages.{adds_below, adds_kind, past_at}
 use Rattle.qs_conn.proofs.MadePackets.{stage_more, stage_full, own_kind}
 use Rattle.qs_conn.proofs.middle.Core.put_marked.Goals as goal
 
 pub loop-stream-init : goal.loop-stream-init
-loop-stream-init c = search (rules, stage_more, adds_first, fills_same)
+loop-stream-init c = search (rules, fills_same)
 
 pub loop-stream-preserved : goal.loop-stream-preserved
 loop-stream-preserved c =
     let stream = c.in-Some.stream in
     record {
       small = omega (arith, c.value-from.ensures.in_range);
-      stage = λ wish room old e passed at kinds start. (
-          let before = and_below passed c.args.kind stream in
-          let here = stage_more wish room old (take c.loop-stream.packet.len c.loop-stream.out) (end_of c.loop-stream.self e) c.loop-stream.packet.is_full (and_below passed c.args.kind c.loop-stream.from) before (adds_below _ passed c.args.kind c.loop-stream.from stream (λ n. c.in-Some.ensures.idle n e)) (c.loop-stream.invariant.stage wish room old e passed at kinds start) in
-          let after = c.put_slot-packet.ensures.stage wish room old e before (at ∙ sym c.loop-stream.invariant.filled.room) (passed_below passed c.args.kind stream c.at.result c.at.ensures kinds) here in
-          stage_more wish room old (take c.put_slot-packet.result.len c.put_slot-packet.new.out) (end_of c.put_slot-packet.new.self e) c.put_slot-packet.result.is_full (and_slot before c.at.result) (and_below passed c.args.kind (c.value-from.result + 1))
-          (adds_next _ passed c.args.kind stream c.value-from.result c.at.result c.at.ensures c.value-from.ensures.same) after);
+      stage = λ wish room old e at start. (
+          let here = stage_more wish room old (take c.loop-stream.packet.len c.loop-stream.out) (end_of c.loop-stream.self e) c.loop-stream.packet.is_full (slot_place (slot_at c.args.kind c.loop-stream.from)) (slot_place (slot_at c.args.kind stream)) (adds_below _ c.args.kind c.loop-stream.from stream (λ n. c.in-Some.ensures.idle n e)) (c.loop-stream.invariant.stage wish room old e at start) in
+          rw (c.value-from.ensures.same, ← past_at c.args.kind stream c.at.result c.at.ensures) (c.put_slot-packet.ensures.stage wish room old e (at ∙ sym c.loop-stream.invariant.filled.room) (rw c.at.ensures here)));
       filled = (
           let none = ap own_items c.at.ensures ∙ own_kind c.args.kind stream in
           let put = fills_within _ _ _ _ _ _ _ 0 (omega (arith, none)) (fills_on _ _ _ _ _ _ _ _ _ _ _ c.loop-stream.invariant.filled c.put_slot-packet.ensures.filled) in
@@ -31,17 +28,16 @@ loop-stream-preserved c =
     }
 
 pub returns-clause-stage : goal.returns-clause-stage
-returns-clause-stage c = λ wish room old e passed at kinds start.
-    stage_more wish room old (take c.loop-stream.packet.len c.loop-stream.out) (end_of c.loop-stream.self e) c.loop-stream.packet.is_full (and_below passed c.args.kind c.loop-stream.from) (and_kind passed c.args.kind)
-    (adds_kind _ passed c.args.kind c.loop-stream.from (λ n le. c.in_default.ensures.idle n e le tt)) (c.loop-stream.invariant.stage wish room old e passed at kinds start)
+returns-clause-stage c = λ wish room old e at start.
+    stage_more wish room old (take c.loop-stream.packet.len c.loop-stream.out) (end_of c.loop-stream.self e) c.loop-stream.packet.is_full (slot_place (slot_at c.args.kind c.loop-stream.from)) (kind_past c.args.kind)
+    (adds_kind _ c.args.kind c.loop-stream.from (λ n le. c.in_default.ensures.idle n e le tt)) (c.loop-stream.invariant.stage wish room old e at start)
 
 pub returns-then-packet-2-clause-stage : goal.returns-then-packet-2-clause-stage
-returns-then-packet-2-clause-stage c = λ wish room old e passed at kinds start. (
+returns-then-packet-2-clause-stage c = λ wish room old e at start. (
     let stream = c.in-Some.stream in
-    let before = and_below passed c.args.kind stream in
-    let here = stage_more wish room old (take c.loop-stream.packet.len c.loop-stream.out) (end_of c.loop-stream.self e) c.loop-stream.packet.is_full (and_below passed c.args.kind c.loop-stream.from) before (adds_below _ passed c.args.kind c.loop-stream.from stream (λ n. c.in-Some.ensures.idle n e)) (c.loop-stream.invariant.stage wish room old e passed at kinds start) in
-    let after = c.put_slot-packet.ensures.stage wish room old e before (at ∙ sym c.loop-stream.invariant.filled.room) (passed_below passed c.args.kind stream c.at.result c.at.ensures kinds) here in
-    stage_full wish room old (take c.put_slot-packet.result.len c.put_slot-packet.new.out) (end_of c.put_slot-packet.new.self e) c.put_slot-packet.result.is_full (and_slot before c.at.result) (and_kind passed c.args.kind) c.if-packet-2.true after)
+    let here = stage_more wish room old (take c.loop-stream.packet.len c.loop-stream.out) (end_of c.loop-stream.self e) c.loop-stream.packet.is_full (slot_place (slot_at c.args.kind c.loop-stream.from)) (slot_place (slot_at c.args.kind stream)) (adds_below _ c.args.kind c.loop-stream.from stream (λ n. c.in-Some.ensures.idle n e)) (c.loop-stream.invariant.stage wish room old e at start) in
+    let after = c.put_slot-packet.ensures.stage wish room old e (at ∙ sym c.loop-stream.invariant.filled.room) (rw c.at.ensures here) in
+    stage_full wish room old (take c.put_slot-packet.result.len c.put_slot-packet.new.out) (end_of c.put_slot-packet.new.self e) c.put_slot-packet.result.is_full _ (kind_past c.args.kind) c.if-packet-2.true after)
 
 pub returns-then-packet-2-clause-filled : goal.returns-then-packet-2-clause-filled
 returns-then-packet-2-clause-filled c =

@@ -1,7 +1,7 @@
 use Rattle.std.proofs.Common.{take, inl}
 use Rattle.qs_conn.specs.Middle.{end_of}
 use Rattle.qs_conn.proofs.Cores.{core_item, fills_outbox}
-use Rattle.qs_conn.specs.Filling.{and_slot}
+use Rattle.qs_conn.specs.Filling.{slot_place, slot_past}
 use Rattle.qs_conn.proofs.Stages.{adds_slot}
 use Rattle.qs_conn.proofs.MadePackets.{stage_more, stage_put, some_end, item_spare, item_memory, memory_marks}
 use Rattle.qs_conn.proofs.Untolds.{may_tell, idle_none, idle_covered, put_idle}
@@ -9,20 +9,20 @@ use Rattle.qs_conn.proofs.Owns.{told_covered, told_uncovered}
 use Rattle.qs_conn.proofs.middle.Core.put_slot.Goals as goal
 
 pub returns-in_default-clause-stage : goal.returns-in_default-clause-stage
-returns-in_default-clause-stage c = λ wish room old e passed at before.
-    stage_more wish room old (take c.args.packet.len c.args.out.now) (end_of c.args.self.now e) c.args.packet.is_full passed (and_slot passed c.args.slot) (adds_slot _ passed c.args.slot (idle_none _ c.args.slot (c.in_default.ensures.current e)))
+returns-in_default-clause-stage c = λ wish room old e at.
+    stage_more wish room old (take c.args.packet.len c.args.out.now) (end_of c.args.self.now e) c.args.packet.is_full (slot_place c.args.slot) (slot_past c.args.slot) (adds_slot _ c.args.slot (idle_none _ c.args.slot (c.in_default.ensures.current e)))
 
 pub returns-then-is_told-clause-stage : goal.returns-then-is_told-clause-stage
-returns-then-is_told-clause-stage c = λ wish room old e passed at before.
+returns-then-is_told-clause-stage c = λ wish room old e at.
     let self = c.args.self.now in
     let idle = idle_covered (end_of c.args.self.now e) c.args.slot c.in-Some.item (c.in-Some.ensures.current e) (told_covered self.limits self.recvs self.outbox e self.own self.due c.requires.filling.core.own c.requires.filling.core.due c.in-Some.item c.is_told.result c.is_told.ensures.told c.is_told.ensures.acked (c.in-Some.ensures.current e).0 c.if-is_told.true) in
-    stage_more wish room old (take c.args.packet.len c.args.out.now) (end_of c.args.self.now e) c.args.packet.is_full passed (and_slot passed c.args.slot) (adds_slot _ passed c.args.slot idle)
+    stage_more wish room old (take c.args.packet.len c.args.out.now) (end_of c.args.self.now e) c.args.packet.is_full (slot_place c.args.slot) (slot_past c.args.slot) (adds_slot _ c.args.slot idle)
 
 pub returns-clause-stage : goal.returns-clause-stage
-returns-clause-stage c = λ wish room old e passed at before stage.
+returns-clause-stage c = λ wish room old e at stage.
     let self = c.args.self.now in
-    rw c.note_put.ensures (stage_put wish room old self.limits self.recvs self.outbox c.put_item-packet.new.outbox e c.args.out.now c.put_item-packet.new.out c.args.packet.len c.put_item-packet.result.len c.args.packet.is_full c.put_item-packet.result.is_full passed c.args.slot c.in-Some.item
-    c.if-packet.false at before c.requires.filling.within (c.in-Some.ensures.current e) (told_uncovered self.limits self.recvs self.outbox e self.own self.due c.requires.filling.core.own c.requires.filling.core.due c.in-Some.item c.is_told.result c.is_told.ensures.told c.is_told.ensures.acked c.args.slot (c.in-Some.ensures.current e).1 c.requires.marked (c.in-Some.ensures.current e).0 c.if-is_told.false) c.in-Some.ensures.fits c.put_item-packet.ensures.puts stage)
+    rw c.note_put.ensures (stage_put wish room old self.limits self.recvs self.outbox c.put_item-packet.new.outbox e c.args.out.now c.put_item-packet.new.out c.args.packet.len c.put_item-packet.result.len c.args.packet.is_full c.put_item-packet.result.is_full c.args.slot c.in-Some.item
+    c.if-packet.false at c.requires.filling.within (c.in-Some.ensures.current e) (told_uncovered self.limits self.recvs self.outbox e self.own self.due c.requires.filling.core.own c.requires.filling.core.due c.in-Some.item c.is_told.result c.is_told.ensures.told c.is_told.ensures.acked c.args.slot (c.in-Some.ensures.current e).1 c.requires.marked (c.in-Some.ensures.current e).0 c.if-is_told.false) c.in-Some.ensures.fits c.put_item-packet.ensures.puts stage)
 
 pub returns-clause-filled : goal.returns-clause-filled
 returns-clause-filled c =

@@ -16,7 +16,7 @@ invariant_of-self g c =
     edited c.self.inside.halves.items c.args.index c.index_mut-half.result.now c.f-answer.new.arg2 there c.index_mut-half.ensures.value _ _ _ _ _ _ _ _ c.self.invariant
     c.measure-was.ensures.value c.measure-is.ensures.value c.moved-self-inside.ensures c.measure-was.ensures.small c.measure-was.ensures.paid c.measure-is.ensures.lawful
     (subst (λ l. IsCalm l c.f-answer.new.arg2) (sym at) ((rw (← c.self.view_is) at c.requires.calm) _ _ _ (record { half = _; into = _; shows = (at, refl); left = _; met = c.f-answer.ensures; leaves = (refl, refl) })))
-    c.look-2.ensures.len c.look-2.ensures.touched c.look.ensures
+    c.mark_rise.ensures c.look.ensures
 
 pub returns : goal.returns
 returns g c =

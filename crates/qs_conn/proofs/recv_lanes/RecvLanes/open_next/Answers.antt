@@ -8,4 +8,4 @@ invariant_of-self-2 c =
     rw (c.in_ok-push.ensures.items, c.in_ok-fresh.ensures)
     (one_opened c.self.inside.halves.items _ _ _ c.args.window c.args.share c.len-index.result at c.requires.some c.requires.small (rw (at, c.self.view_is) c.requires.few) (c.in_ok-make_room.ensures.ok (omega (arith, at, c.self.invariant.room)))
     (λ k. c.in_ok-make_room-2.ensures.ok k (omega (arith, at, (c.self.invariant.noted k).room)))
-    (wider _ _ c.self.inside.touched _ c.self.inside.news _ c.make_room.ensures.lanes c.make_room.ensures.wider c.make_room-2.ensures.wider c.self.invariant))
+    (wider _ _ c.self.inside.rising _ c.self.inside.news _ c.make_room.ensures.wider c.make_room-2.ensures.wider c.self.invariant))

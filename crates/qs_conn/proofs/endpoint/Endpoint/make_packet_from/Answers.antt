@@ -3,7 +3,7 @@ use Rattle.std.proofs.lemmas.List.{length-take-le}
 use Rattle.qs_conn.proofs.Cores.{core_outbox, kept_streams, kept_no_ack}
 use Rattle.qs_conn.proofs.MadePackets.{ack_left, packed_by, filled_next, idle_none, make_exhausted, make_none, make_some, make_order, memory_begun}
 use Rattle.qs_conn.proofs.Rests.{rest_none, rest_kept}
-use Rattle.qs_conn.proofs.endpoint.Endpoint.make.Goals as goal
+use Rattle.qs_conn.proofs.endpoint.Endpoint.make_packet_from.Goals as goal
 
 pub returns-then-number-gt-MAX_NUMBER-clause-step : goal.returns-then-number-gt-MAX_NUMBER-clause-step
 returns-then-number-gt-MAX_NUMBER-clause-step c = search (rules, make_exhausted)

@@ -1,4 +1,4 @@
-// Made from crates/qs_conn/src/own_carried.rt by rust/erase; not edited by hand.
+// Made from crates/qs_conn/src/own_told.rt by rust/erase; not edited by hand.
 use crate::proved::qs_conn::outbox::Outbox;
 use crate::proved::qs_send::Item;
 use crate::proved::qs_wire::Dir;
@@ -8,14 +8,14 @@ pub(crate) const OWN_ITEMS: usize = 6;
 
 /// For each kind the value that went into a packet last, unless that was lost. A value instead of a mark, which would have to be set as a
 /// limit rises: no packet told more than the present value, so nothing is due if that is the one that is kept.
-pub(crate) struct OwnCarried {
+pub(crate) struct OwnTold {
     values: [Option<u64>; 6],
 }
 
-impl OwnCarried {
+impl OwnTold {
     #[inline]
     pub(crate) fn new() -> Self {
-        OwnCarried {
+        OwnTold {
             values: [None, None, None, None, None, None],
         }
     }

@@ -1,7 +1,7 @@
 ghost use Rattle.std.specs.Prelude.{◌≡◌, ◌↔◌, IsTrue, true, false, None, IfSome, replicate};
 ghost use Rattle.qs_send.specs.PieceCodes.{dir_number};
 ghost use Rattle.qs_machine.specs.Outgoing.{IsAckedOut};
-ghost use Rattle.qs_conn.specs.OwnCarried.{own_place, own_value, has_own, own_with, own_without};
+ghost use Rattle.qs_conn.specs.OwnTold.{own_place, own_value, has_own, own_with, own_without};
 
 use crate::outbox::Outbox;
 use qs_send::Item;
@@ -14,11 +14,11 @@ pub(crate) const OWN_ITEMS: usize = 6;
 /// For each kind the value that went into a packet last, unless that was lost. A value instead of a mark, which would have to be set as a
 /// limit rises: no packet told more than the present value, so nothing is due if that is the one that is kept.
 #[derive(Drop)]
-pub(crate) struct OwnCarried {
+pub(crate) struct OwnTold {
     values: [Option<u64>; 6],
 }
 
-impl Model for OwnCarried {
+impl Model for OwnTold {
     ghost use Rattle.std.specs.Prelude.{◌≡◌, ℕ, List, Option, length};
     ghost use Rattle.std.specs.Coded.{coded_list, coded_option, coded_ℕ};
 
@@ -31,11 +31,11 @@ impl Model for OwnCarried {
     ghost invariant = { λ o. length o.values ≡ 6 };
 }
 
-impl OwnCarried {
+impl OwnTold {
     pub(crate) fn new() -> Self
         ensures { result ≡ replicate 6 None }
     {
-        OwnCarried {
+        OwnTold {
             values: [None, None, None, None, None, None],
         }
     }
