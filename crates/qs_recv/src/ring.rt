@@ -51,6 +51,16 @@ impl Ring {
         self.size
     }
 
+    /// Of a ring from which nothing is to be read any more: what comes next begins at its front, and goes around its end as late as it can.
+    pub(crate) fn begin_at(&mut self, from: u64)
+        requires { from ≤ 2 ^ 62 }
+        ensures { length self.new.0 ≡ length self.old.0 }
+    {
+        if self.size > 0 {
+            self.turn = self.size - place_of(from, self.size);
+        }
+    }
+
     pub(crate) fn write(&mut self, at: u64, bytes: &[u8])
         requires small { at ≤ 2 ^ 62 }
         requires some { 0 < length self.old.0 }

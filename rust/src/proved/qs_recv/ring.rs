@@ -30,6 +30,15 @@ impl Ring {
         self.size
     }
 
+    /// Of a ring from which nothing is to be read any more: what comes next begins at its front, and goes around its end as late as it can.
+    #[inline]
+    pub(crate) fn begin_at(&mut self, from: u64) {
+        debug_assert!(from <= 1 << 62);
+        if self.size > 0 {
+            self.turn = self.size - place_of(from, self.size);
+        }
+    }
+
     #[inline]
     pub(crate) fn write(&mut self, at: u64, bytes: &[u8]) {
         debug_assert!(at <= 1 << 62);

@@ -24,7 +24,7 @@ const THIN: u64 = 64;
 /// As bytes are read and it is larger than 4,096 bytes and than three times what it has to reach, it shrinks in place, to half more at
 /// least. A ring that followed each read and each frame could be made to move for a byte. This one can't: after it grew at least a sixth of
 /// its bytes is read before it shrinks, after it shrank at least a third is free, and all its shrinking between two growths moves no more
-/// bytes than it has.
+/// bytes than it has. Once all was read, what comes next begins at its front: so it rarely goes around the end.
 ///
 /// Bytes that begin a page or more past the ring's end, and would leave most of it empty, go to pages. As others come before them the ring
 /// grows over all pages that follow without a gap, and these move into it. So a put pays one comparison where there are no pages, and a
@@ -343,6 +343,17 @@ fn reach(
     ring.widen(alloc, from, kept as usize, size as usize)
 }
 
+// All was read: a small ring stays, and the next bytes begin at its front.
+#[inline(always)]
+fn clear(alloc: Global, ring: &mut Ring, from: u64) {
+    debug_assert!(from <= 1 << 62);
+    if ring.len() as u64 <= IDLE_SIZE {
+        ring.begin_at(from);
+        return;
+    }
+    *ring = Ring::none(alloc);
+}
+
 // All of it if nothing is stored. Else, if it is larger than three times the span of what is, to the least power of two that is half more
 // than that span: so that growing and shrinking don't take turns.
 #[inline(always)]
@@ -350,11 +361,11 @@ fn shed(alloc: Global, ring: &mut Ring, from: u64, span: u64, window: u64) {
     debug_assert!(window <= 1 << 30);
     debug_assert!(from <= 1 << 62);
     let len = ring.len() as u64;
-    if len <= IDLE_SIZE.max(3 * span) {
+    if span == 0 {
+        clear(alloc, ring, from);
         return;
     }
-    if span == 0 {
-        *ring = Ring::none(alloc);
+    if len <= IDLE_SIZE.max(3 * span) {
         return;
     }
     let size = size_for(span + span / 2, window);
