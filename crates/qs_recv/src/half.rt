@@ -446,6 +446,7 @@ impl<A: Assembly> RecvHalf<A> {
 
     /// Whether a read of one byte would return something new: bytes, or the end or a reset that wasn't read yet; and whether either was. Of
     /// a stopped half only the end and a reset are read (sections 2.2, 3.2 and 3.5). Both in one look, for the marks of all streams.
+    #[inline(always)]
     pub fn standing(&self) -> Standing
         ensures readable { result.is_readable ≡ is_readable self.now }
         ensures ended { result.has_ended ≡ is_over self.now }

@@ -61,6 +61,7 @@ impl Ring {
         }
     }
 
+    #[inline(always)]
     pub(crate) fn write(&mut self, at: u64, bytes: &[u8])
         requires small { at ≤ 2 ^ 62 }
         requires some { 0 < length self.old.0 }

@@ -241,6 +241,7 @@ impl Core {
     }
 
     #[tactic(auto, using(crate::proofs::Cores::fills_same))]
+    #[inline(always)]
     fn put_way(&mut self, first: StreamId, around: bool, out: &mut [u8], packet: Course) -> Course
         requires filling { IsFilling self.old out.old packet.len }
         requires memory { HasMemory self.old (length out.old) packet.len 0 }

@@ -39,7 +39,7 @@ impl Ring {
         }
     }
 
-    #[inline]
+    #[inline(always)]
     pub(crate) fn write(&mut self, at: u64, bytes: &[u8]) {
         debug_assert!(at <= 1 << 62);
         let place = place_of(at + self.turn as u64, self.size);

@@ -152,6 +152,7 @@ impl Core {
         self.put_way(wish.want.first, true, out, packet)
     }
 
+    #[inline(always)]
     fn put_way(&mut self, first: StreamId, around: bool, out: &mut [u8], packet: Course) -> Course {
         if packet.is_full {
             return packet;
