@@ -72,7 +72,7 @@ added a b c d =
 abbrev pub AreSettled : List Bool → List RecvLane → Type 0
 AreSettled rising lanes = (i : ℕ) (l : RecvLane) → slice_get lanes i ≡ Some l → is_marked rising i ≡ false → IsSettled l
 
--- the sums are right, and the marks tell which limits rise and which lanes have an answer
+-- the sums are right, no limit rises but of lanes that are marked, and the marks tell which lanes have an answer
 pub record AreKept (lanes : List RecvLane) (tally : Tally) (rising : List Bool) (marks : RecvMarks) : Type 0 where
   pub counted : tally ≡ wrapped (tally_on lanes)
   pub lawful : EachLawful lanes

@@ -396,12 +396,11 @@ end_within r f w from stored h =
     ]
 
 -- where nothing is kept, a ring may begin anywhere
-pub begun_anywhere : (first from kept span window : ℕ) (old new : List ℕ) → IsReach (if kept == 0 then first else from) kept span window old new → IsReach from kept span window old new
-begun_anywhere first from kept span window old new h =
+pub begun_anywhere : (first from kept span size : ℕ) (old new : List ℕ) → IsReach (if kept == 0 then first else from) kept span size old new → IsReach from kept span size old new
+begun_anywhere first from kept span size old new h =
     record {
       reaches = h.reaches;
       more = h.more;
-      within = h.within;
       bound = h.bound;
       moved = grind (arith, nat_tests);
     }

@@ -126,11 +126,10 @@ abbrev pub IsMoved : ℕ → ℕ → List ℕ → List ℕ → Type 0
 IsMoved from count old new = (q : ℕ) → from ≤ q → q < from + count → slice_index new (q % length new) ≡ slice_index old (q % length old)
 
 -- a ring reaches so far past `from`, with the bytes of so many offsets, and is no larger than it was or is made to be
-pub record IsReach (from count span window : ℕ) (old new : List ℕ) : Type 0 where
+pub record IsReach (from count span size : ℕ) (old new : List ℕ) : Type 0 where
   pub reaches : span ≤ length new
   pub more : length old ≤ length new
-  pub within : length new ≤ window
-  pub bound : length new ≤ max (length old) (max 64 (2 * span))
+  pub bound : length new ≤ max (length old) size
   pub moved : IsMoved from count old new
 
 -- how many of the n offsets from `from` on didn't come

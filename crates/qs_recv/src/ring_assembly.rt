@@ -247,13 +247,14 @@ impl RingAssembly {
         self.draw(end)?;
         let from = self.read_count;
         let kept = self.near - from;
+        let size = self.size_to_reach(end - from);
         reach(
             self.alloc,
             &mut self.ring,
             front_of(kept, first, from),
             kept,
             end - from,
-            self.window,
+            size,
         )?;
         match store(
             &mut self.ring,
@@ -274,6 +275,20 @@ impl RingAssembly {
                 Err(refused)
             }
         }
+    }
+
+    // A ring that went because it was large begins with as many bytes as one may keep: in a steady flow it soon has more.
+    fn size_to_reach(&self, span: u64) -> u64
+        requires { span ≤ self.now.0.widest }
+        ensures reaches { span ≤ result }
+        ensures within { result ≤ self.now.0.widest }
+        ensures bound { result ≤ max 4096 (2 * span) }
+    {
+        let size = size_for(span, self.window);
+        if self.ring.len() > 0 || self.read_count == 0 {
+            return size;
+        }
+        size.max(IDLE_SIZE.min(self.window))
     }
 
     // The pages are taken first: if one is refused, nothing was written.
@@ -329,13 +344,14 @@ impl RingAssembly {
         let from = self.read_count;
         let near = self.near;
         let next = self.apart.gap_past(near.max(end), self.end);
+        let size = size_for(next - from, self.window);
         reach(
             self.alloc,
             &mut self.ring,
             from,
             near - from,
             next - from,
-            self.window,
+            size,
         )?;
         self.apart.move_into(&mut self.ring, near, next);
         self.near = next;
@@ -414,14 +430,13 @@ fn reach(
     from: u64,
     kept: u64,
     span: u64,
-    window: u64,
+    size: u64,
 ) -> Result<(), NoMemory>
-    requires small { window ≤ MAX_WINDOW }
+    requires small { size ≤ MAX_WINDOW }
     requires from_fits { from ≤ 2 ^ 62 }
     requires had { kept ≤ length ring.old.0 }
-    requires within { length ring.old.0 ≤ window }
-    requires fits { span ≤ window }
-    ensures ok { OnOk result (IsReach from kept span window ring.old.0 ring.new.0) }
+    requires fits { span ≤ size }
+    ensures ok { OnOk result (IsReach from kept span size ring.old.0 ring.new.0) }
     ensures there { StayWrittenTo from (from + kept) ring.old ring.new }
     ensures short { OnErr result (length ring.old.0 < span) }
     ensures err { OnErr result (ring.new ≡ ring.old) }
@@ -429,7 +444,6 @@ fn reach(
     if span <= ring.len() as u64 {
         return Ok(());
     }
-    let size = size_for(span, window);
     ring.widen(alloc, from, kept as usize, size as usize)
 }
 

@@ -20,7 +20,7 @@ pub(crate) struct RecvLanes {
     halves: Vec<Half>,
     // Modulo 2^64: whoever asks for the sums knows that they fit.
     tally: Tally,
-    // Each whose limit rises as the call ends, and no limit rises else.
+    // No limit rises as a call ends but of those that are marked.
     rising: Marks,
     news: RecvMarks,
 }

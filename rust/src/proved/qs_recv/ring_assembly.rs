@@ -188,13 +188,14 @@ impl RingAssembly {
         self.draw(end)?;
         let from = self.read_count;
         let kept = self.near - from;
+        let size = self.size_to_reach(end - from);
         reach(
             self.alloc,
             &mut self.ring,
             front_of(kept, first, from),
             kept,
             end - from,
-            self.window,
+            size,
         )?;
         match store(
             &mut self.ring,
@@ -215,6 +216,15 @@ impl RingAssembly {
                 Err(refused)
             }
         }
+    }
+
+    // A ring that went because it was large begins with as many bytes as one may keep: in a steady flow it soon has more.
+    fn size_to_reach(&self, span: u64) -> u64 {
+        let size = size_for(span, self.window);
+        if self.ring.len() > 0 || self.read_count == 0 {
+            return size;
+        }
+        size.max(IDLE_SIZE.min(self.window))
     }
 
     // The pages are taken first: if one is refused, nothing was written.
@@ -256,13 +266,14 @@ impl RingAssembly {
         let from = self.read_count;
         let near = self.near;
         let next = self.apart.gap_past(near.max(end), self.end);
+        let size = size_for(next - from, self.window);
         reach(
             self.alloc,
             &mut self.ring,
             from,
             near - from,
             next - from,
-            self.window,
+            size,
         )?;
         self.apart.move_into(&mut self.ring, near, next);
         self.near = next;
@@ -331,15 +342,14 @@ fn reach(
     from: u64,
     kept: u64,
     span: u64,
-    window: u64,
+    size: u64,
 ) -> Result<(), NoMemory> {
-    debug_assert!(window <= 1 << 30);
+    debug_assert!(size <= 1 << 30);
     debug_assert!(from <= 1 << 62);
-    debug_assert!(span <= window);
+    debug_assert!(span <= size);
     if span <= ring.len() as u64 {
         return Ok(());
     }
-    let size = size_for(span, window);
     ring.widen(alloc, from, kept as usize, size as usize)
 }
 

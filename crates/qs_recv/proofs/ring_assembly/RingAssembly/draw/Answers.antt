@@ -21,8 +21,8 @@ gap_past-next-requires-clause-small c = grind (arith, nat_tests, apart)
 pub gap_past-next-requires-clause-at : goal.gap_past-next-requires-clause-at
 gap_past-next-requires-clause-at c = grind (arith, nat_tests, apart)
 
-pub reach-requires-clause-fits : goal.reach-requires-clause-fits
-reach-requires-clause-fits c = grind (arith, nat_tests, end_within, apart, on)
+pub size_for-size-requires-clause-fits : goal.size_for-size-requires-clause-fits
+size_for-size-requires-clause-fits c = grind (arith, nat_tests, end_within, apart, on)
 
 pub move_into-requires-clause-small : goal.move_into-requires-clause-small
 move_into-requires-clause-small c = grind (arith, nat_tests, apart)
@@ -51,14 +51,17 @@ invariant_of-self-2 c =
     let sized = rw on at c.self.invariant.1 in
     let later = drawn_low _ _ _ _ _ _ _ _ _ _ _ d in
     let same_len = d.same_len in
-    let within = c.in_ok-reach.ensures.ok.within in
+    let fits = sized.within in
+    let size = c.size_for-size.ensures in
+    let size_fits = size.within in
+    let size_bound = size.bound in
     let bound = c.in_ok-reach.ensures.ok.bound in
     let was = sized.bound in
     rw on (
       same_ring _ _ _ _ _ _ (rw on at c.self.invariant.0) (same h),
       record {
-        within = omega (arith, same_len, within);
-        bound = omega (arith, same_len, bound, was, later);
+        within = omega (arith, same_len, bound, size_fits, fits);
+        bound = omega (arith, same_len, bound, size_bound, was, later);
         whole = whole_less old c.move_into.new.self.pages (λ n. nat_lt (s.near / 2048) n && nat_lt (n * 2048) next) sized.whole d.left;
         none = λ off. absurd (both_ways false refl off);
         apart = λ _. apart_drawn _ _ _ _ _ _ _ _ _ _ _ d;

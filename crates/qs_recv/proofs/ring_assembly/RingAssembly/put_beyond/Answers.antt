@@ -25,7 +25,7 @@ near c =
     let req = rw (← view) at c.requires in
     let sized = rw (on c) at c.self-2.invariant.1 in
     let a = sized.apart refl in
-    let reach = begun_anywhere c.args.first s.read_count (s.near - s.read_count) (c.args.offset + length c.args.bytes.now - s.read_count) s.window s.ring.0 c.reach.new.ring.0 (rw c.front_of.ensures at c.in_ok-reach.ensures.ok) in
+    let reach = begun_anywhere c.args.first s.read_count (s.near - s.read_count) (c.args.offset + length c.args.bytes.now - s.read_count) c.size_to_reach-size.result s.ring.0 c.reach.new.ring.0 (rw c.front_of.ensures at c.in_ok-reach.ensures.ok) in
     let far = a.reaches in
     let more = reach.more in
     let reaches = reach.reaches in
@@ -64,15 +64,18 @@ invariant_of-self-in-Ok c =
     let sized = rw (on h) at c.self-2.invariant.1 in
     let reach = c.in_ok-reach.ensures.ok in
     let same_len = p.same_len in
-    let wide_fits = reach.within in
     let bound = reach.bound in
+    let size = rw (← c.self-2.view_is) at c.size_to_reach-size.ensures in
+    let size_fits = size.within in
+    let size_bound = size.bound in
+    let fits = sized.within in
     let was = sized.bound in
     let gap = c.requires.gap in
     rw (c.in-Ok.ensures.noted, on h, c.max-self-inside.ensures) (
       ring_put _ _ _ _ _ _ c.in-Ok.count _ _ _ (put_near _ _ _ _ _ _ _ _ _ _ _ _ _ p) c.in-Ok.ensures.count,
       record {
-        within = omega (arith, same_len, wide_fits);
-        bound = omega (arith, same_len, bound, was);
+        within = omega (arith, same_len, bound, size_fits, fits);
+        bound = omega (arith, same_len, bound, size_bound, was);
         whole = sized.whole;
         none = λ off. absurd (both_ways false refl off);
         apart = λ _. apart_near _ _ _ _ _ _ _ _ c.max-self-inside-in-Ok.result _ _ _ _ _ p c.max-self-inside-in-Ok.ensures;
@@ -100,11 +103,13 @@ invariant_of-self-in-Err c =
     let same : (q : ℕ) → s.read_count ≤ q → set.contains s.received q ≡ true → byte_of less s.near s.apart.pages q ≡ byte_of s.ring.0 s.near s.apart.pages q =
     λ q low came. ring_moved c.store.new.ring.0 less s.apart.pages s.read_count s.near (s.near - s.read_count) q refl c.shed.ensures.moved low ∙ refused_near _ _ _ _ _ _ _ _ _ _ _ _ _ p q low came in
     let same_len = p.same_len in
-    let wide_fits = c.in_ok-reach.ensures.ok.within in
+    let bound = c.in_ok-reach.ensures.ok.bound in
+    let size_fits = (rw (← c.self-2.view_is) at c.size_to_reach-size.ensures).within in
+    let fits = sized.within in
     rw (c.in-Err.ensures.err, on h) (
       same_ring _ _ _ _ _ _ p.was same,
       record {
-        within = omega (arith, same_len, wide_fits, c.shed.ensures.fewer);
+        within = omega (arith, same_len, bound, size_fits, fits, c.shed.ensures.fewer);
         bound = c.shed.ensures.bound;
         whole = sized.whole;
         none = λ off. absurd (both_ways false refl off);
