@@ -207,6 +207,7 @@ fn may_end(half: &SendHalf) -> bool
 }
 
 // Whether bytes or the end may go.
+#[inline(always)]
 fn may_send(half: &SendHalf) -> bool
     ensures { result ≡ has tasks.Bytes half.now }
 {

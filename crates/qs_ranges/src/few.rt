@@ -16,6 +16,7 @@ pub(crate) enum Few {
 }
 
 /// Only a third run needs memory.
+#[inline(always)]
 pub(crate) fn insert_few(
     few: &mut Few,
     blocks: &mut Vec<Block>,

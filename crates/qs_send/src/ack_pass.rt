@@ -101,6 +101,7 @@ impl<'a> AckPass<'a> {
         true
     }
 
+    #[inline(always)]
     fn in_range(&mut self, records: &Records) -> Option<u64>
         ensures same { (self.new.low ≡ self.old.low) × (self.new.unread ≡ self.old.unread) }
         ensures below { self.new.below ≤ self.old.below }

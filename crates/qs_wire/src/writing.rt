@@ -132,6 +132,7 @@ fn put_counted(bytes: &[u8], at: usize, out: &mut [u8]) -> usize
 }
 
 /// Two pieces, as a ring has them, so that no caller joins them first.
+#[inline(always)]
 fn put_pieces(front: &[u8], back: &[u8], at: usize, out: &mut [u8]) -> usize
     requires below { length (front.now ++ back.now) < 2 ^ 62 }
     requires room { at + length (short (length (front.now ++ back.now)) ++ (front.now ++ back.now)) ≤ length out.old }

@@ -193,6 +193,7 @@ impl Endpoint {
     }
 
     // The longer way: it may open streams, and end one.
+    #[inline(always)]
     #[tactic(auto, unfolding(qs_machine::specs::FrameStep::frame_taken))]
     fn on_any_stream(
         &mut self,

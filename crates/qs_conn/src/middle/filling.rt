@@ -61,6 +61,7 @@ impl Core {
     }
 
     // It looks at how many marks there are, and at no half.
+    #[inline(always)]
     fn is_still(&self) -> bool
         requires { IsCore self.now }
         ensures { result ≡ true → IsStill self.now }

@@ -170,6 +170,7 @@ fn may_end(half: &SendHalf) -> bool {
 }
 
 // Whether bytes or the end may go.
+#[inline(always)]
 fn may_send(half: &SendHalf) -> bool {
     // New bytes come first: they need no search of what was sent and what of it is acknowledged.
     if half.has_unsent() {

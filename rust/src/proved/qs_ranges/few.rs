@@ -14,7 +14,7 @@ pub(crate) enum Few {
 }
 
 /// Only a third run needs memory.
-#[inline]
+#[inline(always)]
 pub(crate) fn insert_few(
     few: &mut Few,
     blocks: &mut Vec<Block>,

@@ -77,6 +77,7 @@ impl<'a> AckPass<'a> {
         true
     }
 
+    #[inline(always)]
     fn in_range(&mut self, records: &Records) -> Option<u64> {
         match records.within(self.low, self.below, &mut self.turns) {
             Some(number) => {

@@ -97,6 +97,7 @@ fn put_counted(bytes: &[u8], at: usize, out: &mut [u8]) -> usize {
 }
 
 /// Two pieces, as a ring has them, so that no caller joins them first.
+#[inline(always)]
 fn put_pieces(front: &[u8], back: &[u8], at: usize, out: &mut [u8]) -> usize {
     let count = front.len() + back.len();
     let next = put_number(count as u64, at, out);

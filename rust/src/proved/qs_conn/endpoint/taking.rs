@@ -138,6 +138,7 @@ impl Endpoint {
     }
 
     // The longer way: it may open streams, and end one.
+    #[inline(always)]
     fn on_any_stream(
         &mut self,
         stream: StreamId,

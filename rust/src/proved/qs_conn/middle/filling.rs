@@ -34,6 +34,7 @@ impl Core {
     }
 
     // It looks at how many marks there are, and at no half.
+    #[inline(always)]
     fn is_still(&self) -> bool {
         if self.outbox.may_have(Task::Bytes) {
             return false;
