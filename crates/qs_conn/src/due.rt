@@ -68,6 +68,7 @@ impl Due {
     }
 
     /// Items of the connection itself have no mark: they are few enough for a value each.
+    #[inline(always)]
     pub(crate) fn set(&mut self, item: &Item, is_due: bool)
         ensures { self.new ≡ item_marked item.now is_due self.old }
     {

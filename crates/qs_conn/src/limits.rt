@@ -46,6 +46,7 @@ pub(crate) struct Limits {
 
 impl Limits {
     /// An item is due while no packet carries it with this value (RFC 9000, sections 4.1, 4.6 and 13.3).
+    #[inline(always)]
     pub(crate) fn current(&self, outbox: &Outbox, recvs: &RecvTables, slot: Slot) -> Option<Item>
         requires { LimitsFit self.now }
         ensures current { (e : End) → IsCurrentIn (end_by self.now recvs.now outbox.now e) slot result }

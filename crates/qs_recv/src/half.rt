@@ -213,6 +213,7 @@ impl<A: Assembly> RecvHalf<A> {
 
     /// What is said of a STREAM frame: whether it may be taken, with the final size tested before the limit, and whether its bytes are
     /// those that are stored. A caller with a limit of its own tests that in between. It takes no memory.
+    #[inline(always)]
     pub fn judge(&self, offset: u64, bytes: &[u8], fin: bool) -> Judged
         requires { offset + length bytes.now ≤ MAX_VARINT }
         ensures stream { result.stream ≡ check_stream self.now offset (length bytes.now) fin }

@@ -397,6 +397,7 @@ fn len_if(there: bool, value: u64) -> usize
     if there { varint_len(value) } else { 0 }
 }
 
+#[inline(always)]
 fn put_number_if(there: bool, value: u64, at: usize, out: &mut [u8]) -> usize
     requires below { value < 2 ^ 62 }
     requires room { at + length (if there then short value else []) ≤ length out.old }

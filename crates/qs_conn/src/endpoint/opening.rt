@@ -154,6 +154,7 @@ impl Endpoint {
     }
 }
 
+#[inline(always)]
 fn open_sends(
     outbox: &mut Outbox,
     absent: bool,

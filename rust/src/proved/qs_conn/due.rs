@@ -59,7 +59,7 @@ impl Due {
     }
 
     /// Items of the connection itself have no mark: they are few enough for a value each.
-    #[inline]
+    #[inline(always)]
     pub(crate) fn set(&mut self, item: &Item, is_due: bool) {
         match *item {
             Item::ResetStream { stream, .. } => self.resets.set(stream, is_due),

@@ -34,7 +34,7 @@ pub(crate) struct Limits {
 
 impl Limits {
     /// An item is due while no packet carries it with this value (RFC 9000, sections 4.1, 4.6 and 13.3).
-    #[inline]
+    #[inline(always)]
     pub(crate) fn current(&self, outbox: &Outbox, recvs: &RecvTables, slot: Slot) -> Option<Item> {
         match slot {
             Slot::MaxData => self.max_data(),

@@ -177,7 +177,7 @@ impl<A: Assembly> RecvHalf<A> {
 
     /// What is said of a STREAM frame: whether it may be taken, with the final size tested before the limit, and whether its bytes are
     /// those that are stored. A caller with a limit of its own tests that in between. It takes no memory.
-    #[inline]
+    #[inline(always)]
     pub fn judge(&self, offset: u64, bytes: &[u8], fin: bool) -> Judged {
         match &self.parts {
             Parts::Kept(_) => Judged {

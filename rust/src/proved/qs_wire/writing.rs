@@ -316,6 +316,7 @@ fn len_if(there: bool, value: u64) -> usize {
     if there { varint_len(value) } else { 0 }
 }
 
+#[inline(always)]
 fn put_number_if(there: bool, value: u64, at: usize, out: &mut [u8]) -> usize {
     debug_assert!(value < 1 << 62);
     if there {
