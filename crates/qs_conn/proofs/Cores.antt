@@ -49,7 +49,7 @@ use Rattle.qs_calls.specs.declared.closing.Closed.{Closed}
 use Rattle.qs_machine.proofs.Taken.{sum_open}
 use Rattle.qs_conn.specs.declared.middle.Core.{Core}
 use Rattle.qs_conn.specs.declared.due.Due.{Due}
-use Rattle.qs_conn.specs.declared.slot.Kind.{Kind}
+use Rattle.qs_conn.specs.declared.due.Kind.{Kind}
 use Rattle.qs_conn.specs.Layers.{stop_to_tell}
 use Rattle.qs_conn.specs.Tasks.{IsFree, IsShort}
 use Rattle.qs_conn.specs.OwnTold.{Kept, AreOwn, own_with, own_left}

@@ -1,8 +1,8 @@
 -- The marks of what may be due stay right, as packets come and go and as limits rise.
 use Rattle.std.specs.FinMap as fmap
 use Rattle.std.specs.FinSet as set
-use Rattle.qs_conn.specs.declared.slot.Slot.TheVariants as slots
-use Rattle.qs_conn.specs.declared.slot.Kind.TheVariants as kinds
+use Rattle.qs_conn.specs.declared.due.Slot.TheVariants as slots
+use Rattle.qs_conn.specs.declared.due.Kind.TheVariants as kinds
 use Rattle.std.proofs.lemmas.Bool.Decides.{nat_tests}
 use Rattle.std.proofs.Common.{if◌then◌else◌, arith, ◌||◌, ◌≡◌, ℕ, Bool, true, false, ◌⊎◌, Option, None, Some, refl, sym, ap, ◌∙◌, subst, inl, inr, nat_cmp, ◌%◌, ◌≤◌, max, ◌<◌, ◌/◌, nat_lt, List, [], ◌∷◌, length, get_or, slice_get}
 use Rattle.std.proofs.lemmas.Bool.{true≢false, cases_eq, cond_both, or_right}
@@ -34,7 +34,7 @@ use Rattle.qs_wire.specs.declared.stream_id.Role.{Role}
 use Rattle.qs_calls.specs.declared.settings.Settings.{Settings}
 use Rattle.qs_conn.specs.declared.due.Due.{Due}
 use Rattle.qs_conn.specs.declared.limits.Limits.{Limits}
-use Rattle.qs_conn.specs.declared.slot.Kind.{Kind}
+use Rattle.qs_conn.specs.declared.due.Kind.{Kind}
 use Rattle.qs_conn.specs.Filling.{end_by, slot_at, slot_of}
 use Rattle.qs_conn.specs.Marks.{IsIdle}
 use Rattle.qs_conn.specs.Runs.{held_out}

@@ -1,8 +1,8 @@
 -- How many streams of the peer came to their end, as halves change.
 use Rattle.std.specs.FinMap as fmap
 use Rattle.qs_calls.specs.declared.making.MakeFault.TheVariants as making
-use Rattle.qs_conn.specs.declared.slot.Kind.TheVariants as kinds
-use Rattle.qs_conn.specs.declared.slot.Slot.TheVariants as slots
+use Rattle.qs_conn.specs.declared.due.Kind.TheVariants as kinds
+use Rattle.qs_conn.specs.declared.due.Slot.TheVariants as slots
 use Rattle.qs_conn.specs.declared.send_marks.Task.TheVariants as tasks
 use Rattle.std.proofs.Common.{◌≡◌, ◌≢◌, ℕ, zero, suc, ◌+◌, ◌-◌, ◌*◌, ◌/◌, ◌%◌, ◌<◌, ◌≤◌, ◌==◌, ◌^◌, Bool, true, false, ◌&&◌, ◌||◌, cond, nat_le, List, [], ◌∷◌, length, zip, Option, Some, None, slice_get, option_map, refl, sym, ap, ◌∙◌, arith, inl, inr, ◌++◌, subst, ◌↔◌, is_some, Ok, take, not, max, nat_eq, is_none, ◌⊎◌, min, IsTrue}
 use Rattle.std.specs.List.{filter, AllByRecursion}
@@ -50,7 +50,7 @@ use Rattle.qs_conn.specs.Middle.{end_of, IsCore, IsStill, HasMemory, HoldsAtMost
 use Rattle.qs_conn.proofs.Stages.{packed_same, packed_none, packed_asks, packed_made, packed_some, passed_slot, goes_next, goes_alone, begun_more, begun_item, begun_too_long}
 use Rattle.qs_conn.proofs.Flows.{within_goes, two, ties_of, none_goes, chunk_goes, Allowed}
 use Rattle.qs_send.specs.declared.piece.Item.{Item}
-use Rattle.qs_conn.specs.declared.slot.Slot.{Slot}
+use Rattle.qs_conn.specs.declared.due.Slot.{Slot}
 use Rattle.qs_conn.specs.Marks.{AddsIdle, IsIdle}
 use Rattle.qs_conn.proofs.EachItem.{each_item}
 use Rattle.qs_ranges.proofs.Sets.{below-end_of, covers-is}
@@ -64,7 +64,7 @@ use Rattle.qs_conn.specs.Sending.{Tells, TellsDue, TellsGoing, TellsItem, TellsW
 use Rattle.qs_conn.proofs.Outboxes.{due_is}
 use Rattle.qs_send.specs.declared.piece.Item.TheVariants.{MaxData, MaxStreams, DataBlocked, StreamsBlocked}
 use Rattle.qs_conn.specs.declared.due.Due.{Due}
-use Rattle.qs_conn.specs.declared.slot.Kind.{Kind}
+use Rattle.qs_conn.specs.declared.due.Kind.{Kind}
 use Rattle.qs_conn.specs.Tasks.{IsQuietAt}
 use Rattle.qs_conn.specs.OwnTold.{Kept}
 use Rattle.qs_conn.proofs.Hearing.{no_goes}

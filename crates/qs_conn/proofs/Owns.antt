@@ -22,9 +22,9 @@ use Rattle.qs_conn.proofs.DuePackets.{kind_tells, left_as, left_is, out_less, ou
 use Rattle.qs_conn.specs.Due.{AreDue, IsMarkedAt, IsToldIn, Packets, packets_of, marks_of}
 use Rattle.qs_conn.specs.Marks.{IsIdle}
 use Rattle.qs_conn.specs.declared.due.Due.{Due}
-use Rattle.qs_conn.specs.declared.slot.Kind.{Kind}
-use Rattle.qs_conn.specs.declared.slot.Slot.{Slot}
-use Rattle.qs_conn.specs.declared.slot.Kind.TheVariants as kinds
+use Rattle.qs_conn.specs.declared.due.Kind.{Kind}
+use Rattle.qs_conn.specs.declared.due.Slot.{Slot}
+use Rattle.qs_conn.specs.declared.due.Kind.TheVariants as kinds
 use Rattle.qs_conn.specs.Filling.{slot_at}
 use Rattle.qs_conn.specs.Middle.{own_items}
 use Rattle.qs_conn.proofs.MadePackets.{own_kind}

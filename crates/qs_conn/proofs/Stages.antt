@@ -1,6 +1,6 @@
 -- Slots are passed in the order in which a packet takes their items.
-use Rattle.qs_conn.specs.declared.slot.Slot.TheVariants as slots
-use Rattle.qs_conn.specs.declared.slot.Kind.TheVariants as kinds
+use Rattle.qs_conn.specs.declared.due.Slot.TheVariants as slots
+use Rattle.qs_conn.specs.declared.due.Kind.TheVariants as kinds
 use borrow.Rule.Slice.PartMut.{put_mid}
 use Rattle.std.specs.FinSet as set
 use Rattle.std.specs.FinMap as fmap
@@ -11,8 +11,8 @@ use Rattle.qs_send.specs.declared.piece.Item.{Item}
 use Rattle.qs_send.specs.declared.piece.Item.TheVariants.{MaxStreams, StreamsBlocked}
 use Rattle.qs_machine.specs.Ends.{End}
 use Rattle.qs_machine.specs.InOrder.{IsLower, item_place}
-use Rattle.qs_conn.specs.declared.slot.Slot.{Slot}
-use Rattle.qs_conn.specs.declared.slot.Kind.{Kind}
+use Rattle.qs_conn.specs.declared.due.Slot.{Slot}
+use Rattle.qs_conn.specs.declared.due.Kind.{Kind}
 use Rattle.qs_wire.specs.declared.stream_id.Dir.TheVariants.{Bidi, Uni}
 use Rattle.qs_conn.specs.Filling.{slot_of, slot_at, slot_place, slot_past, kind_past, all_items, IsPassed, frame_of_item, IsWished, IsAckLeft, InPacket, IsAckText, Begun, no_slot, IsCurrentIn, HasWished, Framed, Content, Packed}
 use Rattle.qs_conn.specs.Marks.{IsIdle, AddsIdle}

@@ -1,7 +1,7 @@
 -- What a frame that is put leaves: what is outstanding, due and covered then, and in which order the packet's pieces are.
 use Rattle.std.specs.FinMap as fmap
 use Rattle.std.specs.FinSet as set
-use Rattle.qs_conn.specs.declared.slot.Slot.TheVariants as slots
+use Rattle.qs_conn.specs.declared.due.Slot.TheVariants as slots
 use Rattle.std.proofs.lemmas.Bool.Decides.{nat_tests}
 use Rattle.std.proofs.Common.{arith, ◌≡◌, ℕ, suc, ◌/◌, ◌%◌, ◌<◌, Bool, true, List, [], ◌∷◌, ◌++◌, ◌⊎◌, map, refl, sym, ap, ◌∙◌, subst, inl, inr, Option, None, Some, option_map, slice_set, ◌≤◌, false, is_some, cond, if◌then◌else◌, ◌≢◌}
 use Rattle.std.proofs.lemmas.List.{append-nil, append_assoc, length-append}
@@ -32,7 +32,7 @@ use Rattle.qs_send.specs.declared.parts.Reset.{Reset}
 use Rattle.qs_conn.specs.declared.limits.Limits.{Limits}
 use Rattle.qs_machine.specs.Sums.{or_none}
 use Rattle.qs_conn.specs.Layers.{limit_to_tell, stop_to_tell}
-use Rattle.qs_conn.specs.declared.slot.Slot.{Slot}
+use Rattle.qs_conn.specs.declared.due.Slot.{Slot}
 use Rattle.qs_machine.proofs.Ties.{nowhere}
 use Rattle.std.proofs.lemmas.Bool.{both_ways, or_left, true≢false, cases_eq}
 use Rattle.qs_ranges.proofs.Sets.{covers-of}

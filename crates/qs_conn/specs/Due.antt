@@ -18,9 +18,9 @@ use Rattle.qs_machine.specs.Heard.{is_told}
 use Rattle.qs_machine.specs.Outgoing.{Outgoing, IsBlockedAt}
 use Rattle.qs_machine.specs.Sums.{or_none}
 use Rattle.qs_conn.specs.declared.due.Due.{Due}
-use Rattle.qs_conn.specs.declared.slot.Slot.{Slot}
-use Rattle.qs_conn.specs.declared.slot.Kind.{Kind}
-use Rattle.qs_conn.specs.declared.slot.Kind.TheVariants as kinds
+use Rattle.qs_conn.specs.declared.due.Slot.{Slot}
+use Rattle.qs_conn.specs.declared.due.Kind.{Kind}
+use Rattle.qs_conn.specs.declared.due.Kind.TheVariants as kinds
 use Rattle.qs_conn.specs.Filling.{slot_at}
 use Rattle.qs_conn.specs.Marks.{places}
 

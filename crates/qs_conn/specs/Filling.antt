@@ -18,11 +18,11 @@ use Rattle.qs_send.specs.declared.piece.Piece.TheVariants.{Data, Told}
 use Rattle.qs_send.specs.declared.piece.Item.{Item}
 use Rattle.qs_send.specs.declared.piece.Item.TheVariants.{MaxData, MaxStreamData, MaxStreams, ResetStream, StopSending, DataBlocked, StreamDataBlocked, StreamsBlocked}
 use Rattle.qs_conn.specs.declared.filling.Wish.{Wish}
-use Rattle.qs_conn.specs.declared.slot.Slot.{Slot}
-use Rattle.qs_conn.specs.declared.slot.Kind.{Kind}
-use Rattle.qs_conn.specs.declared.slot.Kind.TheVariants as kinds
+use Rattle.qs_conn.specs.declared.due.Slot.{Slot}
+use Rattle.qs_conn.specs.declared.due.Kind.{Kind}
+use Rattle.qs_conn.specs.declared.due.Kind.TheVariants as kinds
 use Rattle.qs_conn.specs.declared.limits.Limits.{Limits}
-use Rattle.qs_conn.specs.declared.slot.Slot.TheVariants as slots
+use Rattle.qs_conn.specs.declared.due.Slot.TheVariants as slots
 use Rattle.qs_machine.specs.Tables.{Tables, lookup, each}
 use Rattle.qs_machine.specs.Ends.{End, Records, Present}
 use Rattle.qs_machine.specs.Credit.{all_sent}

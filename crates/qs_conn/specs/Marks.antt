@@ -5,7 +5,7 @@ pub use Rattle.qs_ranges.specs.Bits.{IsBefore}
 use Rattle.qs_machine.specs.Tables.{Tables, type_of, widened, lookup, open_to}
 use Rattle.qs_machine.specs.Sums.{changed}
 use Rattle.qs_send.specs.declared.piece.Item.{Item}
-use Rattle.qs_conn.specs.declared.slot.Slot.{Slot}
+use Rattle.qs_conn.specs.declared.due.Slot.{Slot}
 use Rattle.qs_machine.specs.Ends.{End}
 use Rattle.qs_machine.specs.News.{IsHeld, IsEnded}
 use Rattle.qs_machine.specs.Heard.{is_told}

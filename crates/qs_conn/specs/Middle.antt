@@ -14,9 +14,9 @@ use Rattle.qs_conn.specs.declared.middle.Core.{Core}
 use Rattle.qs_conn.specs.Due.{AreDue, packets_of}
 use Rattle.qs_conn.specs.OwnTold.{AreOwn}
 use Rattle.qs_conn.specs.Ended.{CountsFit}
-use Rattle.qs_conn.specs.declared.slot.Kind.{Kind}
-use Rattle.qs_conn.specs.declared.slot.Slot.{Slot}
-use Rattle.qs_conn.specs.declared.slot.Slot.TheVariants as slots
+use Rattle.qs_conn.specs.declared.due.Kind.{Kind}
+use Rattle.qs_conn.specs.declared.due.Slot.{Slot}
+use Rattle.qs_conn.specs.declared.due.Slot.TheVariants as slots
 use Rattle.qs_conn.specs.Filling.{LimitsFit, present_of, end_by, slot_at, HasSpare, LeavesRest}
 use Rattle.qs_conn.specs.Layers.{ClosingFits}
 use Rattle.qs_conn.specs.Marks.{IsIdle as IsIdleAt}

@@ -2,12 +2,12 @@
 ghost use Rattle.std.specs.Prelude.{◌≡◌, false, OnOk, OnErr};
 ghost use Rattle.qs_machine.specs.Tables.{no_streams};
 ghost use Rattle.qs_conn.specs.Due.{HasPlaces, places_to, marks_of, item_marked, kind_marked};
+ghost use Rattle.qs_conn.specs.Filling.{slot_at};
 
-use crate::slot::Kind;
 use crate::stream_marks::StreamMarks;
 use qs_ranges::NoMemory;
 use qs_send::Item;
-use qs_wire::StreamId;
+use qs_wire::{Dir, StreamId};
 use std::alloc::Global;
 
 /// A mark for each half and kind of control frame. With one no packet in flight has the present value; without one nothing of the kind is
@@ -78,6 +78,41 @@ impl Due {
             Item::MaxStreamData { stream, .. } => self.limits.set(stream, is_due),
             Item::StreamDataBlocked { stream, .. } => self.blocks.set(stream, is_due),
             _ => {}
+        }
+    }
+}
+
+/// What a control item speaks of, without its value. At any moment at most one item of a slot is current, so a slot is enough to ask
+/// whether it is outstanding.
+#[derive(Clone, Copy, Drop)]
+pub(crate) enum Slot {
+    MaxData,
+    MaxStreamData(StreamId),
+    MaxStreams(Dir),
+    ResetStream(StreamId),
+    StopSending(StreamId),
+    DataBlocked,
+    StreamDataBlocked(StreamId),
+    StreamsBlocked(Dir),
+}
+
+#[derive(Clone, Copy, Drop)]
+pub(crate) enum Kind {
+    ResetStream,
+    StopSending,
+    MaxStreamData,
+    StreamDataBlocked,
+}
+
+impl Kind {
+    pub(crate) fn at(self, stream: StreamId) -> Slot
+        ensures { result ≡ slot_at self stream }
+    {
+        match self {
+            Kind::ResetStream => Slot::ResetStream(stream),
+            Kind::StopSending => Slot::StopSending(stream),
+            Kind::MaxStreamData => Slot::MaxStreamData(stream),
+            Kind::StreamDataBlocked => Slot::StreamDataBlocked(stream),
         }
     }
 }

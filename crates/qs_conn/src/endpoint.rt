@@ -9,6 +9,7 @@ ghost use Rattle.qs_machine.specs.Making.{ClosePayload, ClosePayloadBy, close_te
 ghost use Rattle.qs_conn.specs.Layers.{ClosingFits};
 ghost use Rattle.qs_conn.specs.Held.{IsHeldBy};
 ghost use Rattle.qs_machine.specs.Standing.{IsWithinCredit};
+ghost use Rattle.qs_machine.specs.Receiving.{noted_closed};
 
 use crate::by_dir::ByDir;
 use crate::due::Due;
@@ -20,33 +21,25 @@ use crate::own_told::OwnTold;
 use crate::places::type_of;
 use crate::recv_tables::RecvTables;
 use crate::setup::{setup_fault, wide_setup_fault};
-use qs_calls::{Closed, Closing, PeerLimits, Settings, SetupFault, Share, Tuning};
+use qs_calls::{Closed, Closing, NotedClose, PeerLimits, Settings, SetupFault, Share, Tuning};
 use qs_ranges::RangeSet;
 use qs_recv::{next_limit, step_of};
 use qs_wire::{Dir, Frame, Role, StreamId, put};
 use std::alloc::Global;
 use std::marker::Model;
 
-mod ack_alone;
 mod alone;
 mod asking;
-mod claiming;
-mod ended_news;
-mod filling;
 mod frames;
 mod hearing;
-mod losing;
 mod making;
-mod newly;
 mod news;
 mod opening;
 mod owner;
 mod raising;
 mod receiving;
-mod recording;
 mod setting;
 mod taking;
-mod telling;
 mod tokens;
 
 /// One endpoint of a connection. It processes payloads and makes packets. The application opens, accepts, writes, finishes, resets, reads
@@ -317,6 +310,20 @@ impl Endpoint {
         } else {
             self.peer.bidi_local
         }
+    }
+
+    /// Notes a close that the stack above the packets saw or made itself, either side's, by the transport or by the application (RFC 9000,
+    /// sections 10.2 and 19.19): such a stack sees CONNECTION_CLOSE frames before this endpoint does. It is closed from then on, as after
+    /// any close, and `noted_close` returns what was noted; it has no payload for the peer, since such a stack writes its own. `receive`
+    /// and `take_frame` return it again: the peer's close by its code, and its own as a closing of frame type 0 at place 0. An endpoint
+    /// that closed before stays as it is. It takes no memory.
+    pub fn note_closed(&mut self, close: NotedClose)
+        ensures { self.new ≡ noted_closed close self.old }
+    {
+        if self.closed.is_some() {
+            return;
+        }
+        self.closed = Some(Closed::Noted(close));
     }
 }
 

@@ -2,7 +2,7 @@
 ghost use Rattle.std.specs.Prelude.{◌≡◌, ◌≤◌, ◌<◌, ◌↔◌, IsTrue, true, None, Some};
 ghost use Rattle.qs_ranges.specs.Numbers.{MAX_VARINT};
 ghost use Rattle.qs_recv.specs.Lane.{MAX_CONN_WINDOW, RecvLane};
-ghost use Rattle.qs_conn.specs.declared.slot.Slot.TheVariants as slots;
+ghost use Rattle.qs_conn.specs.declared.due.Slot.TheVariants as slots;
 ghost use Rattle.qs_machine.specs.Tables.{Tables};
 ghost use Rattle.qs_machine.specs.Ends.{End, first_window_by};
 ghost use Rattle.qs_machine.specs.Setting.{count_with};
@@ -14,13 +14,13 @@ ghost use Rattle.qs_conn.specs.Due.{packets_of};
 ghost use Rattle.qs_conn.specs.OwnTold.{AreOwn};
 
 use crate::by_dir::ByDir;
+use crate::due::Slot;
 use crate::endpoint::{is_uni, role_bit};
 use crate::outbox::Outbox;
 use crate::own_told::OwnTold;
 use crate::places::type_of;
 use crate::recv_tables::RecvTables;
 use crate::send_marks::Task;
-use crate::slot::Slot;
 use qs_calls::{MAX_VARINT, Settings, Tuning};
 use qs_send::Item;
 use qs_wire::{Dir, Role, StreamId};

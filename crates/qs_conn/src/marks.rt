@@ -5,7 +5,7 @@ ghost use Rattle.qs_conn.specs.Marks.{IsClear, is_marked, HasRoom, IsClearedFrom
 
 use crate::bits::{Bits, Both, FLAGS_PER_WORD, Left, Row};
 use crate::places::index_from;
-use crate::told_marks::ToldMarks;
+use crate::told_streams::ToldMarks;
 use qs_ranges::{NoMemory, lowest_bit};
 use std::alloc::Global;
 use std::marker::Model;

@@ -15,7 +15,6 @@ use qs_wire::StreamId;
 
 mod acking;
 mod filling;
-mod losing;
 mod noting;
 mod sendable;
 

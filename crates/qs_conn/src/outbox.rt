@@ -11,7 +11,7 @@ ghost use Rattle.qs_conn.specs.Promised.{promised_on};
 ghost use Rattle.qs_machine.specs.Credit.{unsent_on};
 ghost use Rattle.qs_machine.specs.Outgoing.{AreApartIn, no_packets, with_sends, on_lane, sent_sum, HasSending, AreOfOpen};
 
-use crate::holds::sum_held;
+use crate::held::sum_held;
 use crate::piece_room::PieceRoom;
 use crate::places::{index_of, type_of};
 use crate::send_lanes::{SendLanes, Setting};

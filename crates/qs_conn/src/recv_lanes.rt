@@ -11,7 +11,7 @@ ghost use Rattle.qs_conn.specs.RecvTasks.{has_one};
 ghost use Rattle.qs_conn.specs.Due.{StayMarkedOf};
 ghost use Rattle.qs_conn.specs.Marks.{is_marked};
 
-use crate::holds::{Holds, sum_held};
+use crate::held::{Holds, sum_held};
 use crate::marks::Marks;
 use crate::recv_marks::{RecvMarks, RecvTask};
 use crate::stream_marks::StreamMarks;

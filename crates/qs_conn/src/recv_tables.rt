@@ -16,7 +16,7 @@ ghost use Rattle.qs_conn.specs.RecvEdits.{OnceInto, OnceTakesInto, LeavesCalm, I
 ghost use Rattle.qs_conn.specs.Edits.{IsEditedIn};
 ghost use Rattle.qs_conn.specs.RecvTasks.{HasOne, HasNone, has_one};
 
-use crate::holds::sum_held;
+use crate::held::sum_held;
 use crate::marks::Marks;
 use crate::places::{Place, index_of, least_stream, type_of};
 use crate::recv_lanes::{Half, RecvLanes};

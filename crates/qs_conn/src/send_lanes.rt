@@ -14,7 +14,7 @@ ghost use Rattle.qs_conn.specs.Promised.{promised_on};
 ghost use Rattle.qs_conn.specs.Marks.{is_marked, one_has};
 ghost use Rattle.qs_conn.specs.Tasks.{AreMarksOf, Stays, counted, has, marks_of};
 
-use crate::holds::Holds;
+use crate::held::Holds;
 use crate::marks::Marks;
 use crate::send_marks::{Moves, SendMarks, Task};
 use qs_ranges::NoMemory;

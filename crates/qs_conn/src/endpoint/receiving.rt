@@ -1,20 +1,26 @@
-ghost use Rattle.std.specs.Prelude.{◌≡◌, ◌<◌, ◌^◌};
+ghost use Rattle.std.specs.Prelude.{◌≡◌, ◌<◌, ◌^◌, ◌+◌, ◌-◌, if◌then◌else◌, OnOk, OnErr};
 ghost use Rattle.std.specs.List.{FoldsTo};
 ghost use Rattle.qs_wire.specs.Layout.{view};
 ghost use Rattle.qs_wire.specs.Grammar.{Fits};
 ghost use Rattle.qs_wire.specs.Reading.{view_placed};
 ghost use Rattle.qs_send.specs.Records.{NoneEmpty};
 ghost use Rattle.qs_machine.specs.Ends.{closes};
-ghost use Rattle.qs_machine.specs.Newly.{newly_acked};
+ghost use Rattle.qs_machine.specs.Newly.{newly_acked, IsNewlyAcked};
 ghost use Rattle.qs_machine.specs.Seen.{seen};
 ghost use Rattle.qs_machine.specs.Receiving.{ReceiveStep, TakesPayload, AtEnd, closing_at, closing_of, noted_receive, noted_of_us};
 ghost use Rattle.qs_conn.specs.Layers.{TakesFrame};
 ghost use Rattle.qs_conn.specs.NewlyTold.{told_of};
+ghost use Rattle.qs_ranges.specs.Numbers.{numbers, MissesRange};
+ghost use Rattle.qs_machine.specs.Recording.{has_too_many, least_in, lowest_end, recorded};
+ghost use Rattle.qs_machine.specs.News.{IsLeast};
+ghost use Rattle.std.specs.FinSet as set;
 
 use super::Endpoint;
+use crate::ack_names::next_named;
 use crate::newly_told::{Silent, Told};
 use crate::seen::{SeenFrame, asks_ack, seen};
 use qs_calls::{Closed, Closer, Closing, NotedClose, Received};
+use qs_ranges::{NoMemory, RangeSet};
 use qs_wire::{Frames, Placed, WireFault};
 
 /// What one frame does to the processing of its payload. If it goes on, the frame may ask for an ACK, which counts only when all frames
@@ -24,6 +30,9 @@ pub(crate) enum Progress {
     GoesOn(bool),
     Ends(Result<Received, Closing>),
 }
+
+/// A bound on what a peer can make this endpoint keep. All of them take at most 515 bytes in an ACK.
+const MAX_RUNS: usize = 32;
 
 impl Endpoint {
     /// Processes the payload of a packet: its frames take effect, one after the other, in order (RFC 9000, sections 12.3, 12.4 and 13.1).
@@ -183,6 +192,50 @@ impl Endpoint {
         self.closed = Some(Closed::ByUs(closing));
         closing
     }
+
+    // Only once all frames took effect: a number that is kept is acknowledged, and its payload never processed again (RFC 9000, section
+    // 13.2.3).
+    #[inline(always)]
+    #[tactic(auto, using(qs_machine::proofs::RunLaws::insert_is_range, crate::proofs::Stages::few_recorded))]
+    pub(super) fn record(&mut self, number: u64, asks: bool) -> Result<(), NoMemory>
+        requires { number < 2 ^ 62 }
+        ensures ok { OnOk result (self.new ≡ recorded number asks self.old) }
+        ensures err { OnErr result (self.new ≡ self.old) }
+        ensures touches_none { OnErr result (MissesRange self.old.done (number - 1) (number + 2)) }
+    {
+        self.done.insert(number, number + 1)?;
+        self.floor = trim(&mut self.done, self.floor);
+        self.ack_due |= asks;
+        Ok(())
+    }
+
+    /// The lowest number at or above `from` of an outstanding packet that an ACK of the payload names, by one reading of the payload for
+    /// each answer; `receive_with_acks` names all in one. `receive` of that payload will acknowledge it (RFC 9000, section 13.3), so ask
+    /// before it. `None` if there is none.
+    ///
+    /// The reading ends no later than that of `receive`: at the first bytes that are no frame, and at a CONNECTION_CLOSE. Nothing else of
+    /// the payload is checked: not whether its number was processed before, nor whether a frame breaks a rule.
+    ///
+    /// It takes no memory. Each answer reads the payload once, its frames and the ranges of its ACKs, and once more for each gap between
+    /// the ranges that it passes.
+    #[tactic(auto, using(crate::proofs::Asked::none_below, crate::proofs::Asked::none_outstanding, crate::proofs::Asked::none_named, crate::proofs::Asked::goes_on, crate::proofs::Asked::is_newly))]
+    pub fn next_newly_acked(&self, payload: &[u8], from: u64) -> Option<u64>
+        ensures { IsLeast (IsNewlyAcked self.now payload.now) from result }
+    {
+        let mut next = from;
+        loop {
+            let Some(number) = self.next_outstanding(next) else {
+                return None;
+            };
+            let Some(named) = next_named(payload, number) else {
+                return None;
+            };
+            if named == number {
+                return Some(number);
+            }
+            next = named;
+        }
+    }
 }
 
 // In the words that `receive` has, so that a stack needs no other way for it.
@@ -203,5 +256,35 @@ pub(super) fn noted_of_us(code: u64) -> Closing
         code,
         frame_type: 0,
         place: 0,
+    }
+}
+
+// The lowest leaves, even if it is the number that just came. Numbers below the floor are dropped unseen from then on, so that none is
+// processed twice.
+#[tactic(auto, unfolding(qs_machine::specs::Recording::has_too_many))]
+fn trim(done: &mut RangeSet, floor: u64) -> u64
+    ensures done { done.new ≡ (if has_too_many done.old then set.difference done.old (numbers 0 (lowest_end done.old)) else done.old) }
+    ensures floor { result ≡ (if has_too_many done.old then lowest_end done.old else floor) }
+{
+    if done.count() <= MAX_RUNS {
+        return floor;
+    }
+    let end = lowest_end(done);
+    done.drop_below(end);
+    end
+}
+
+fn lowest_end(done: &RangeSet) -> u64
+    ensures { result ≡ lowest_end done.now }
+{
+    done.first_missing(lowest(done))
+}
+
+fn lowest(done: &RangeSet) -> u64
+    ensures { result ≡ least_in (set.items done.now) }
+{
+    match done.first() {
+        Some(number) => number,
+        None => 0,
     }
 }

@@ -1,7 +1,9 @@
+//! What became of a packet, by its number or its token.
 ghost use Rattle.std.specs.Prelude.{◌≡◌, ◌+◌, ◌-◌, ◌^◌, ◌<◌, true, None, OnOk, OnErr};
 ghost use Rattle.qs_machine.specs.Alone.{TokenAckedStep, TokenLostStep, LosesEach, LosesOne, token_of, gave, token_refusal, only};
 ghost use Rattle.qs_machine.specs.FrameStep.{frame_taken};
 ghost use Rattle.qs_machine.specs.Receiving.{RunsOut};
+ghost use Rattle.qs_machine.specs.Making.{LoseStep, lose_refusal};
 
 use super::Endpoint;
 use qs_calls::{LostFault, Token, TokenFault};
@@ -117,5 +119,38 @@ impl Endpoint {
         let taken = self.core.ack_range(token.first, token.number + 1);
         self.is_settled &= self.core.ended.is_same(before);
         taken
+    }
+
+    /// Declares the packet of a number lost: what it carried is due again as far as it is still needed (RFC 9000, section 13.3). It is kept
+    /// for a late ACK, among the latest 256 by the order in which they were first declared lost (section 13.2.1).
+    ///
+    /// Refused: `Closed`; `NotOutstanding` if no such packet is outstanding; and `NoMemory`. Then the first pieces of the packet may be
+    /// lost already; the others are still outstanding, and the call may be made again.
+    #[tactic(auto, using(crate::proofs::AckRuns::lost_refused))]
+    pub fn declare_lost(&mut self, number: u64) -> Result<(), LostFault>
+        ensures { LoseStep self.old number result self.new }
+    {
+        if let Some(fault) = self.lose_refusal(number) {
+            return Err(fault);
+        }
+        self.core.outbox.learn_none_empty();
+        match self.core.lose(number) {
+            Ok(()) => Ok(()),
+            Err(_refused) => Err(LostFault::NoMemory),
+        }
+    }
+
+    #[tactic(auto, using(crate::proofs::AckRuns::not_outstanding, crate::proofs::AckRuns::is_outstanding))]
+    fn lose_refusal(&self, number: u64) -> Option<LostFault>
+        ensures { result ≡ lose_refusal self.now number }
+    {
+        if self.closed.is_some() {
+            return Some(LostFault::Closed);
+        }
+        self.core.outbox.learn_none_empty();
+        if self.core.outbox.first(number).is_none() {
+            return Some(LostFault::NotOutstanding);
+        }
+        None
     }
 }

@@ -1,5 +1,5 @@
+//! Packets are acknowledged, or lost.
 ghost use Rattle.std.specs.Prelude.{◌≡◌, ◌<◌, ◌≤◌, ◌-◌, ◌^◌, false, Some, Err, IfOk, IfErr, OnOk, OnErr};
-ghost use Rattle.std.specs.FinMap as fmap;
 ghost use Rattle.qs_wire.specs.Varint.{numbers_of};
 ghost use Rattle.qs_wire.specs.Layout.{ack_ranges_of};
 ghost use Rattle.qs_machine.specs.Memory.{PieceMayRunOut};
@@ -9,7 +9,8 @@ ghost use Rattle.qs_conn.specs.Ended.{half_of};
 ghost use Rattle.std.specs.List.{FoldsTo};
 ghost use Rattle.qs_conn.specs.Rows.{AcksFrom, AcksRow, IsRowAt, MayRunOutAt, numbers_down};
 ghost use Rattle.qs_conn.specs.NewlyTold.{TellsNamed, TellsAhead};
-ghost use Rattle.qs_conn.specs.Runs.{AcksAhead, AcksBoth, AcksNamed, AcksPacket, AcksRanges, from_below, held_out};
+ghost use Rattle.qs_conn.specs.Runs.{AcksAhead, AcksBoth, AcksNamed, AcksPacket, AcksRanges, from_below, held_out, Loses};
+ghost use Rattle.std.specs.FinMap as fmap;
 
 use super::Core;
 use crate::newly_told::{Silent, Told};
@@ -193,6 +194,35 @@ impl Core {
         self.outbox.ack_kept(packet, piece)?;
         let is = self.is_over(stream);
         self.ended.recount(stream, was, is);
+        Ok(())
+    }
+
+    pub(crate) fn lose(&mut self, number: u64) -> Result<(), NoMemory>
+        requires rest { IsAtRest self.old }
+        ensures rest { IsAtRest self.new }
+        ensures streams { KeepsStreams self.old self.new }
+        ensures ended { self.new.ended ≡ self.old.ended }
+        ensures step { Loses number self.old.outbox result self.new.outbox }
+    {
+        let result = self.lose_pieces(number);
+        self.outbox.trim();
+        result
+    }
+
+    // One by one, so that after a refusal each piece is either lost or outstanding.
+    #[tactic(auto, using(crate::proofs::AckRuns::loses_end, crate::proofs::AckRuns::loses_less))]
+    fn lose_pieces(&mut self, number: u64) -> Result<(), NoMemory>
+        requires rest { IsAtRest self.old }
+        ensures rest { IsAtRest self.new }
+        ensures streams { KeepsStreams self.old self.new }
+        ensures ended { self.new.ended ≡ self.old.ended }
+        ensures step { Loses number self.old.outbox result self.new.outbox }
+    {
+        while let Some(piece) = self.outbox.first(number) {
+            self.outbox.learn_apart();
+            self.outbox.lose_first(number, piece)?;
+            self.note_lost(&piece);
+        }
         Ok(())
     }
 }

@@ -17,14 +17,13 @@ ghost use Rattle.qs_conn.specs.Marks.{IsBefore, IsIdle};
 ghost use Rattle.qs_conn.specs.Tasks.{IsOpen};
 
 use super::Core;
-use crate::due::Due;
+use crate::due::{Due, Kind, Slot};
 use crate::filling::{
     Course, LEAST_STREAM_FRAME, Packet, Wish, cut_to, full_at, put_ack_if, put_chunk, put_item,
 };
 use crate::outbox::Outbox;
 use crate::own_told::OWN_ITEMS;
 use crate::send_marks::Task;
-use crate::slot::{Kind, Slot};
 use qs_ranges::RangeSet;
 use qs_wire::{Dir, StreamId};
 

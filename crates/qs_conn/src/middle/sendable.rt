@@ -8,7 +8,7 @@ ghost use Rattle.qs_conn.specs.Due.{IsMarkedAt};
 ghost use Rattle.qs_conn.specs.Sending.{TellsDue, TellsGoing, TellsAnyGoing, TellsFrame, TellsItem, TellsStream, TellsWanted};
 
 use super::Core;
-use crate::slot::{Kind, Slot};
+use crate::due::{Kind, Slot};
 use qs_calls::Fill;
 use qs_wire::{Dir, StreamId};
 

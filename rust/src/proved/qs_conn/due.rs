@@ -1,11 +1,10 @@
 // Made from crates/qs_conn/src/due.rt by rust/erase; not edited by hand.
 //! Which control frames of streams may be due.
 
-use crate::proved::qs_conn::slot::Kind;
 use crate::proved::qs_conn::stream_marks::StreamMarks;
 use crate::proved::qs_ranges::NoMemory;
 use crate::proved::qs_send::Item;
-use crate::proved::qs_wire::StreamId;
+use crate::proved::qs_wire::{Dir, StreamId};
 use crate::shim::alloc::Global;
 
 /// A mark for each half and kind of control frame. With one no packet in flight has the present value; without one nothing of the kind is
@@ -67,6 +66,40 @@ impl Due {
             Item::MaxStreamData { stream, .. } => self.limits.set(stream, is_due),
             Item::StreamDataBlocked { stream, .. } => self.blocks.set(stream, is_due),
             _ => {}
+        }
+    }
+}
+
+/// What a control item speaks of, without its value. At any moment at most one item of a slot is current, so a slot is enough to ask
+/// whether it is outstanding.
+#[derive(Clone, Copy)]
+pub(crate) enum Slot {
+    MaxData,
+    MaxStreamData(StreamId),
+    MaxStreams(Dir),
+    ResetStream(StreamId),
+    StopSending(StreamId),
+    DataBlocked,
+    StreamDataBlocked(StreamId),
+    StreamsBlocked(Dir),
+}
+
+#[derive(Clone, Copy)]
+pub(crate) enum Kind {
+    ResetStream,
+    StopSending,
+    MaxStreamData,
+    StreamDataBlocked,
+}
+
+impl Kind {
+    #[inline]
+    pub(crate) fn at(self, stream: StreamId) -> Slot {
+        match self {
+            Kind::ResetStream => Slot::ResetStream(stream),
+            Kind::StopSending => Slot::StopSending(stream),
+            Kind::MaxStreamData => Slot::MaxStreamData(stream),
+            Kind::StreamDataBlocked => Slot::StreamDataBlocked(stream),
         }
     }
 }

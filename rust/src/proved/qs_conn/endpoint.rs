@@ -11,32 +11,24 @@ use crate::proved::qs_conn::own_told::OwnTold;
 use crate::proved::qs_conn::places::type_of;
 use crate::proved::qs_conn::recv_tables::RecvTables;
 use crate::proved::qs_conn::setup::{setup_fault, wide_setup_fault};
-use crate::proved::qs_calls::{Closed, Closing, PeerLimits, Settings, SetupFault, Share, Tuning};
+use crate::proved::qs_calls::{Closed, Closing, NotedClose, PeerLimits, Settings, SetupFault, Share, Tuning};
 use crate::proved::qs_ranges::RangeSet;
 use crate::proved::qs_recv::{next_limit, step_of};
 use crate::proved::qs_wire::{Dir, Frame, Role, StreamId, put};
 use crate::shim::alloc::Global;
 
-mod ack_alone;
 mod alone;
 mod asking;
-mod claiming;
-mod ended_news;
-mod filling;
 mod frames;
 mod hearing;
-mod losing;
 mod making;
-mod newly;
 mod news;
 mod opening;
 mod owner;
 mod raising;
 mod receiving;
-mod recording;
 mod setting;
 mod taking;
-mod telling;
 mod tokens;
 
 /// One endpoint of a connection. It processes payloads and makes packets. The application opens, accepts, writes, finishes, resets, reads
@@ -234,6 +226,19 @@ impl Endpoint {
         } else {
             self.peer.bidi_local
         }
+    }
+
+    /// Notes a close that the stack above the packets saw or made itself, either side's, by the transport or by the application (RFC 9000,
+    /// sections 10.2 and 19.19): such a stack sees CONNECTION_CLOSE frames before this endpoint does. It is closed from then on, as after
+    /// any close, and `noted_close` returns what was noted; it has no payload for the peer, since such a stack writes its own. `receive`
+    /// and `take_frame` return it again: the peer's close by its code, and its own as a closing of frame type 0 at place 0. An endpoint
+    /// that closed before stays as it is. It takes no memory.
+    #[inline]
+    pub fn note_closed(&mut self, close: NotedClose) {
+        if self.closed.is_some() {
+            return;
+        }
+        self.closed = Some(Closed::Noted(close));
     }
 }
 

@@ -3,7 +3,7 @@
 
 use crate::proved::qs_conn::bits::{Bits, Both, FLAGS_PER_WORD, Left, Row};
 use crate::proved::qs_conn::places::index_from;
-use crate::proved::qs_conn::told_marks::ToldMarks;
+use crate::proved::qs_conn::told_streams::ToldMarks;
 use crate::proved::qs_ranges::{NoMemory, lowest_bit};
 use crate::shim::alloc::Global;
 

@@ -13,7 +13,6 @@ use crate::proved::qs_wire::StreamId;
 
 mod acking;
 mod filling;
-mod losing;
 mod noting;
 mod sendable;
 

@@ -1,7 +1,7 @@
 // Made from crates/qs_conn/src/outbox.rt by rust/erase; not edited by hand.
 use crate::shim::Vec;
 
-use crate::proved::qs_conn::holds::sum_held;
+use crate::proved::qs_conn::held::sum_held;
 use crate::proved::qs_conn::piece_room::PieceRoom;
 use crate::proved::qs_conn::places::{index_of, type_of};
 use crate::proved::qs_conn::send_lanes::{SendLanes, Setting};

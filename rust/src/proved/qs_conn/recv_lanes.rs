@@ -1,7 +1,7 @@
 // Made from crates/qs_conn/src/recv_lanes.rt by rust/erase; not edited by hand.
 use crate::shim::Vec;
 
-use crate::proved::qs_conn::holds::{Holds, sum_held};
+use crate::proved::qs_conn::held::{Holds, sum_held};
 use crate::proved::qs_conn::marks::Marks;
 use crate::proved::qs_conn::recv_marks::{RecvMarks, RecvTask};
 use crate::proved::qs_conn::stream_marks::StreamMarks;

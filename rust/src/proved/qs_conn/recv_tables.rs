@@ -1,5 +1,5 @@
 // Made from crates/qs_conn/src/recv_tables.rt by rust/erase; not edited by hand.
-use crate::proved::qs_conn::holds::sum_held;
+use crate::proved::qs_conn::held::sum_held;
 use crate::proved::qs_conn::marks::Marks;
 use crate::proved::qs_conn::places::{Place, index_of, least_stream, type_of};
 use crate::proved::qs_conn::recv_lanes::{Half, RecvLanes};

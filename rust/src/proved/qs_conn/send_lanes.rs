@@ -1,5 +1,5 @@
 // Made from crates/qs_conn/src/send_lanes.rt by rust/erase; not edited by hand.
-use crate::proved::qs_conn::holds::Holds;
+use crate::proved::qs_conn::held::Holds;
 use crate::proved::qs_conn::marks::Marks;
 use crate::proved::qs_conn::send_marks::{Moves, SendMarks, Task};
 use crate::proved::qs_ranges::NoMemory;

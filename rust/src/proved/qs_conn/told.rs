@@ -2,11 +2,11 @@
 //! What was acknowledged of control items.
 
 use crate::proved::qs_conn::by_dir::ByDir;
-use crate::proved::qs_conn::stream_values::StreamValues;
 use crate::proved::qs_ranges::{NoMemory, RangeSet};
 use crate::proved::qs_send::Item;
 use crate::proved::qs_wire::StreamId;
 use crate::shim::alloc::Global;
+use crate::shim::collections::BTreeMap;
 
 /// The greatest acknowledged value of each control item is enough: no item's value ever falls, so an older one is covered. A reset's is in
 /// its half.
@@ -93,4 +93,30 @@ fn greatest(known: Option<u64>, value: u64) -> Option<u64> {
 fn add(streams: &mut RangeSet, stream: StreamId) -> Result<(), NoMemory> {
     let number = stream.value();
     streams.insert(number, number + 1)
+}
+
+pub(crate) struct StreamValues {
+    values: BTreeMap<u64, u64>,
+}
+
+impl StreamValues {
+    #[inline]
+    pub(crate) fn new(alloc: Global) -> Self {
+        StreamValues {
+            values: BTreeMap::new(alloc),
+        }
+    }
+
+    #[inline]
+    pub(crate) fn raise(&mut self, stream: StreamId, value: u64) -> Result<(), NoMemory> {
+        let number = stream.value();
+        let known = self.values.get(&number).copied().unwrap_or(0);
+        self.values.insert(number, known.max(value))?;
+        Ok(())
+    }
+
+    #[inline]
+    pub(crate) fn is_greatest(&self, stream: StreamId, value: u64) -> bool {
+        self.values.get(&stream.value()).copied() == Some(value)
+    }
 }

@@ -1,11 +1,10 @@
 // Made from crates/qs_conn/src/endpoint/making.rt by rust/erase; not edited by hand.
-use super::Endpoint;
-use crate::proved::qs_conn::filling::Wish;
-use crate::proved::qs_calls::{Fill, Made, MakeFault, NO_CAP};
-use crate::proved::qs_wire::StreamId;
+//! Packets are made, and numbers given to those of the transport.
 
-/// The largest packet number (RFC 9000, section 12.3).
-const MAX_NUMBER: u64 = (1 << 62) - 1;
+use super::Endpoint;
+use crate::proved::qs_conn::filling::{Course, Wish, put_kept};
+use crate::proved::qs_calls::{Fill, Filled, MAX_VARINT, Made, MakeFault, NO_CAP};
+use crate::proved::qs_wire::StreamId;
 
 impl Endpoint {
     /// Makes the next packet: writes its payload at the slice's front. `None` if nothing that is due may go under the limits. What is due
@@ -37,7 +36,7 @@ impl Endpoint {
             return Err(MakeFault::Closed);
         }
         let number = self.core.outbox.next();
-        if number > MAX_NUMBER {
+        if number > MAX_VARINT {
             return Err(MakeFault::Exhausted);
         }
         let most = self.core.most_pieces(out.len());
@@ -85,4 +84,126 @@ impl Endpoint {
         }
         self.core.has_frame()
     }
+
+    /// Makes the next packet, with an ACK alone: writes its payload at the slice's front. `None` if no ACK is due. It names the highest
+    /// numbers kept, as many ranges as there is room for, and carries this delay, in the unit that the peer was given (RFC 9000, sections
+    /// 13.2 and 19.3). Such a packet isn't in flight, so it may go when the congestion window is full (RFC 9002, sections 2 and 7); what
+    /// else is due stays due. It takes no memory.
+    ///
+    /// Refused, and then unchanged: `Closed`; `Exhausted` if the last packet number was used.
+    #[inline]
+    pub fn make_ack(&mut self, delay: u64, out: &mut [u8]) -> Result<Option<Made>, MakeFault> {
+        debug_assert!(delay < 1 << 62);
+        debug_assert!(128 <= out.len());
+        debug_assert!(out.len() <= 16383);
+        if self.closed.is_some() {
+            return Err(MakeFault::Closed);
+        }
+        let number = self.core.outbox.next();
+        if number > MAX_VARINT {
+            return Err(MakeFault::Exhausted);
+        }
+        if !self.ack_due {
+            return Ok(None);
+        }
+        let len = put_kept(&self.done, delay, out);
+        self.ack_due = false;
+        self.core.outbox.commit();
+        self.settle();
+        Ok(Some(Made {
+            number,
+            len,
+            is_ack_eliciting: false,
+        }))
+    }
+
+    /// Whether an ACK is due (RFC 9000, section 13.2).
+    #[inline]
+    pub fn ack_is_due(&self) -> bool {
+        self.ack_due
+    }
+
+    /// Uses up the next packet number for a packet that the transport makes itself, and returns it. Nothing is recorded under it: an ACK
+    /// may name it, and as lost it is `NotOutstanding` (RFC 9000, sections 12.3 and 13.1). A closed endpoint gives numbers too, since the
+    /// payload of its close goes in a packet. It takes no memory.
+    ///
+    /// Refused, and then unchanged: `Exhausted` if the last packet number was used.
+    #[inline]
+    pub fn claim_number(&mut self) -> Result<u64, MakeFault> {
+        let number = self.next_number();
+        if number > MAX_VARINT {
+            return Err(MakeFault::Exhausted);
+        }
+        self.core.outbox.commit();
+        Ok(number)
+    }
+
+    /// The packet number that the next packet has, or the next claim: 2^62 if the last one was used (RFC 9000, section 12.3).
+    #[inline]
+    pub fn next_number(&self) -> u64 {
+        self.core.outbox.next()
+    }
+
+    /// Fills a slice with frames of what is due and asked for, for a packet of a stack with packets of its own: never an ACK, which the
+    /// stack writes. Control frames come first, since the peer may wait for credit, then data of streams in turn (RFC 9000, sections 2.3,
+    /// 4, 12.4 and 13.3). The token that it returns names them later, acknowledged or lost. `None` if nothing that is asked for may go, or
+    /// the room is too small: with `MIN_FILL` bytes it never is. The slice may have any length, and only what is filled changes.
+    ///
+    /// Refused, and then unchanged: `Closed`; `Exhausted` if the last number was used; `NoMemory`, only if something that is asked for may
+    /// go.
+    #[inline]
+    pub fn fill(&mut self, out: &mut [u8], want: &Fill) -> Result<Option<Filled>, MakeFault> {
+        if self.closed.is_some() {
+            return Err(MakeFault::Closed);
+        }
+        let number = self.core.outbox.next();
+        let token = self.token_of(number);
+        if number > MAX_VARINT {
+            return Err(MakeFault::Exhausted);
+        }
+        let most = self.core.most_pieces(out.len());
+        if let Err(_refused) = self.core.outbox.begin(most) {
+            return self.unfilled(want);
+        }
+        let wish = Wish {
+            want: *want,
+            delay: 0,
+            ack_due: false,
+        };
+        let packet = self.core.fill(&self.done, &wish, out);
+        let len = packet.len;
+        if len == 0 {
+            return Ok(None);
+        }
+        let last_stream = self.core.outbox.last_stream();
+        self.core.outbox.commit();
+        self.settle();
+        let more = self.has_more(want, may_follow(packet), &last_stream);
+        Ok(Some(Filled {
+            token,
+            len,
+            last_stream,
+            more,
+        }))
+    }
+
+    // Room for pieces is taken before anything is put, and may be refused when nothing would have gone: then memory wasn't needed.
+    fn unfilled(&self, want: &Fill) -> Result<Option<Filled>, MakeFault> {
+        // (the cap of bytes holds nothing back that memory does)
+        if self.has_more(want, 1, &None) {
+            return Err(MakeFault::NoMemory);
+        }
+        Ok(None)
+    }
+
+    // The stream that sent last is asked first, since it mostly has more.
+    fn has_more(&self, want: &Fill, left: usize, last: &Option<StreamId>) -> bool {
+        self.core.has_wanted(want, left, last)
+    }
+}
+
+// How many bytes of streams may follow a packet: none, where nothing held bytes back that may go.
+#[inline(always)]
+fn may_follow(packet: Course) -> usize {
+    if packet.is_full { packet.quota } else { 0 }
 }

@@ -1,8 +1,10 @@
 // Made from crates/qs_conn/src/endpoint/receiving.rt by rust/erase; not edited by hand.
 use super::Endpoint;
+use crate::proved::qs_conn::ack_names::next_named;
 use crate::proved::qs_conn::newly_told::{Silent, Told};
 use crate::proved::qs_conn::seen::{SeenFrame, asks_ack, seen};
 use crate::proved::qs_calls::{Closed, Closer, Closing, NotedClose, Received};
+use crate::proved::qs_ranges::{NoMemory, RangeSet};
 use crate::proved::qs_wire::{Frames, Placed, WireFault};
 
 /// What one frame does to the processing of its payload. If it goes on, the frame may ask for an ACK, which counts only when all frames
@@ -11,6 +13,9 @@ pub(crate) enum Progress {
     GoesOn(bool),
     Ends(Result<Received, Closing>),
 }
+
+/// A bound on what a peer can make this endpoint keep. All of them take at most 515 bytes in an ACK.
+const MAX_RUNS: usize = 32;
 
 impl Endpoint {
     /// Processes the payload of a packet: its frames take effect, one after the other, in order (RFC 9000, sections 12.3, 12.4 and 13.1).
@@ -140,6 +145,43 @@ impl Endpoint {
         self.closed = Some(Closed::ByUs(closing));
         closing
     }
+
+    // Only once all frames took effect: a number that is kept is acknowledged, and its payload never processed again (RFC 9000, section
+    // 13.2.3).
+    #[inline(always)]
+    pub(super) fn record(&mut self, number: u64, asks: bool) -> Result<(), NoMemory> {
+        debug_assert!(number < 1 << 62);
+        self.done.insert(number, number + 1)?;
+        self.floor = trim(&mut self.done, self.floor);
+        self.ack_due |= asks;
+        Ok(())
+    }
+
+    /// The lowest number at or above `from` of an outstanding packet that an ACK of the payload names, by one reading of the payload for
+    /// each answer; `receive_with_acks` names all in one. `receive` of that payload will acknowledge it (RFC 9000, section 13.3), so ask
+    /// before it. `None` if there is none.
+    ///
+    /// The reading ends no later than that of `receive`: at the first bytes that are no frame, and at a CONNECTION_CLOSE. Nothing else of
+    /// the payload is checked: not whether its number was processed before, nor whether a frame breaks a rule.
+    ///
+    /// It takes no memory. Each answer reads the payload once, its frames and the ranges of its ACKs, and once more for each gap between
+    /// the ranges that it passes.
+    #[inline]
+    pub fn next_newly_acked(&self, payload: &[u8], from: u64) -> Option<u64> {
+        let mut next = from;
+        loop {
+            let Some(number) = self.next_outstanding(next) else {
+                return None;
+            };
+            let Some(named) = next_named(payload, number) else {
+                return None;
+            };
+            if named == number {
+                return Some(number);
+            }
+            next = named;
+        }
+    }
 }
 
 // In the words that `receive` has, so that a stack needs no other way for it.
@@ -157,5 +199,27 @@ pub(super) fn noted_of_us(code: u64) -> Closing {
         code,
         frame_type: 0,
         place: 0,
+    }
+}
+
+// The lowest leaves, even if it is the number that just came. Numbers below the floor are dropped unseen from then on, so that none is
+// processed twice.
+fn trim(done: &mut RangeSet, floor: u64) -> u64 {
+    if done.count() <= MAX_RUNS {
+        return floor;
+    }
+    let end = lowest_end(done);
+    done.drop_below(end);
+    end
+}
+
+fn lowest_end(done: &RangeSet) -> u64 {
+    done.first_missing(lowest(done))
+}
+
+fn lowest(done: &RangeSet) -> u64 {
+    match done.first() {
+        Some(number) => number,
+        None => 0,
     }
 }

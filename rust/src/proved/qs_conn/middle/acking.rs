@@ -1,4 +1,6 @@
 // Made from crates/qs_conn/src/middle/acking.rt by rust/erase; not edited by hand.
+//! Packets are acknowledged, or lost.
+
 use super::Core;
 use crate::proved::qs_conn::newly_told::{Silent, Told};
 use crate::proved::qs_conn::outbox::{KeptPacket, Row};
@@ -117,6 +119,22 @@ impl Core {
         self.outbox.ack_kept(packet, piece)?;
         let is = self.is_over(stream);
         self.ended.recount(stream, was, is);
+        Ok(())
+    }
+
+    #[inline]
+    pub(crate) fn lose(&mut self, number: u64) -> Result<(), NoMemory> {
+        let result = self.lose_pieces(number);
+        self.outbox.trim();
+        result
+    }
+
+    // One by one, so that after a refusal each piece is either lost or outstanding.
+    fn lose_pieces(&mut self, number: u64) -> Result<(), NoMemory> {
+        while let Some(piece) = self.outbox.first(number) {
+            self.outbox.lose_first(number, piece)?;
+            self.note_lost(&piece);
+        }
         Ok(())
     }
 }

@@ -2,14 +2,13 @@
 //! A packet is filled with what is due.
 
 use super::Core;
-use crate::proved::qs_conn::due::Due;
+use crate::proved::qs_conn::due::{Due, Kind, Slot};
 use crate::proved::qs_conn::filling::{
     Course, LEAST_STREAM_FRAME, Packet, Wish, cut_to, full_at, put_ack_if, put_chunk, put_item,
 };
 use crate::proved::qs_conn::outbox::Outbox;
 use crate::proved::qs_conn::own_told::OWN_ITEMS;
 use crate::proved::qs_conn::send_marks::Task;
-use crate::proved::qs_conn::slot::{Kind, Slot};
 use crate::proved::qs_ranges::RangeSet;
 use crate::proved::qs_wire::{Dir, StreamId};
 

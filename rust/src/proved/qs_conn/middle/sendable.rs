@@ -2,7 +2,7 @@
 //! Whether anything is due that may go. By marks and counts, since it is asked before each packet.
 
 use super::Core;
-use crate::proved::qs_conn::slot::{Kind, Slot};
+use crate::proved::qs_conn::due::{Kind, Slot};
 use crate::proved::qs_calls::Fill;
 use crate::proved::qs_wire::{Dir, StreamId};
 

@@ -8,7 +8,7 @@ use Rattle.std.specs.FinSet as set
 use Rattle.qs_ranges.specs.Numbers.{NumberSet}
 use Rattle.qs_machine.specs.Recording.{least_in}
 use Rattle.qs_machine.proofs.RunLaws.{least_member}
-use Rattle.qs_conn.proofs.endpoint.recording.lowest.Goals as goal
+use Rattle.qs_conn.proofs.endpoint.receiving.lowest.Goals as goal
 
 pub returns-in-Some : goal.returns-in-Some
 returns-in-Some c = sym (least_member c.args.done.now c.in-Some.number c.in-Some.ensures.found)

@@ -1,6 +1,6 @@
 use Rattle.std.proofs.Common.{arith}
 use Rattle.qs_conn.proofs.Marked.{full_open, below_opened}
-use Rattle.qs_conn.proofs.told_marks.ToldMarks.open_to.Goals as goal
+use Rattle.qs_conn.proofs.told_streams.ToldMarks.open_to.Goals as goal
 
 pub invariant_of-self-2 : goal.invariant_of-self-2
 invariant_of-self-2 c = (

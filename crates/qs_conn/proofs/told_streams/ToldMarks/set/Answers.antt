@@ -1,7 +1,7 @@
 use Rattle.std.proofs.Common.{◌≡◌, ◌/◌, ◌<◌, ◌∙◌, Bool, List, true, length, arith, ap, set, subst}
 use Rattle.qs_conn.specs.Words.{IsWordOf}
 use Rattle.qs_conn.proofs.Marked.{full_here, below_more, below_next}
-use Rattle.qs_conn.proofs.told_marks.ToldMarks.set.Goals as goal
+use Rattle.qs_conn.proofs.told_streams.ToldMarks.set.Goals as goal
 
 pub invariant_of-self-then-self-word : goal.invariant_of-self-then-self-word
 invariant_of-self-then-self-word c =
