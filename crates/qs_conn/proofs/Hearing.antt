@@ -3,7 +3,7 @@ use Rattle.qs_conn.specs.declared.recv_marks.RecvTask.TheVariants as tasks
 use Rattle.qs_send.specs.declared.parts.SendFault.TheVariants as sends
 use Rattle.std.specs.FinSet as set
 use Rattle.qs_conn.specs.declared.send_marks.Task.TheVariants as send_tasks
-use Rattle.std.proofs.Common.{◌≡◌, ℕ, ◌+◌, ◌-◌, ◌/◌, ◌%◌, ◌<◌, ◌≤◌, ◌^◌, ◌==◌, ◌&&◌, not, nat_le, Bool, true, false, List, length, Option, None, Some, refl, sym, ap, ◌∙◌, subst, arith, zero, suc, ◌⊎◌, is_some, inl, inr, [], take, Result, Ok, Err, unwrap_or, if◌then◌else◌, option_map, ◌||◌, min, cond, nat_lt, IsTrue}
+use Rattle.std.proofs.Common.{◌≡◌, ℕ, ◌+◌, ◌-◌, ◌/◌, ◌%◌, ◌<◌, ◌≤◌, ◌^◌, ◌==◌, ◌&&◌, not, nat_le, Bool, true, false, List, length, Option, None, Some, refl, sym, ap, ◌∙◌, subst, arith, zero, suc, nat_cmp, ◌⊎◌, is_some, inl, inr, [], take, Result, Ok, Err, unwrap_or, if◌then◌else◌, option_map, ◌||◌, min, cond, nat_lt, IsTrue}
 use Rattle.std.specs.Option.{IfSome}
 use Rattle.std.proofs.lemmas.Bool.{true≢false, both_ways, eq-eqb, ne_eqb, and_parts, cases_lt}
 use Rattle.std.proofs.lemmas.Bool.Decides.{nat_tests}
@@ -53,7 +53,7 @@ use Rattle.qs_machine.specs.Due.{ByteGoes, EndGoes, StreamGoes}
 use Rattle.qs_machine.specs.Outgoing.{Outgoing, IsTied, HasSending, WantsMore, chunk_put, lanes_of, sent_sum, with_outgoing, IsAckedReset}
 use Rattle.qs_conn.specs.Filling.{end_by, AnyWantsMore}
 use Rattle.qs_conn.specs.declared.send_marks.Task.{Task}
-use Rattle.qs_conn.specs.Tasks.{HasTask, IsOpen, IsQuiet, IsQuietAt, IsDoneAfter, has, is_due_below, may_end, is_funded, IsSought}
+use Rattle.qs_conn.specs.Tasks.{HasTask, HasTaskAt, going_task, IsQuiet, IsQuietAt, IsDoneAfter, has, is_due_below, may_end, is_funded, IsSought}
 use Rattle.qs_conn.proofs.Outboxes.{is_due, is_end_due, due_is, end_due_is, none_is}
 use Rattle.qs_conn.proofs.Tasks.{no_byte, no_fin, no_fin_again, none_again, below_due, due_below, end_parts, parts_end, unsent_below}
 use Rattle.qs_machine.proofs.LaneTables.{lookup_lanes, lane_there}
@@ -408,15 +408,6 @@ module _ (task : Task) (t : Tables Sending) (from : ℕ) (r : Option ℕ) (h : I
       go true is = absurd (none_before (IsHeld (HasTask task) t) from r h n le before (s, at, is))
       go false is = refl
 
-  held : (P : ℕ → Type 0) (x : Option ℕ) → ((n : ℕ) → x ≡ Some n → P n) → IfSome x P
-  held P x is = grind (arith, nat_tests)
-
-  pub held_from : IfSome r (λ n. from ≤ n)
-  held_from = held (λ n. from ≤ n) r (λ n is. (h.found n is).0)
-
-  pub held_open : IfSome r (IsOpen t)
-  held_open = held (IsOpen t) r (λ n is. ap is_some (h.found n is).1.1)
-
 -- what goes of a stream is of that half
 half_goes : (task : Task) (o : Outgoing) (n : ℕ) → IsQuietAt task o n → (t : Limits) (recvs : Tables RecvLane) (e : End) → StreamGoes (end_by t recvs o e) n
     → (s : Sending) × IsTied o.outstanding n s × IsQuiet task s × (ByteGoes (end_by t recvs o e) n s.lane ⊎ EndGoes (end_by t recvs o e) n s.lane)
@@ -456,6 +447,64 @@ no_goes_again o n q t recvs e spent goes =
       | inl (k, due, below, inr (first, credit)) ↦ omega (arith, credit, spent)
       | inr (due, whole) ↦ both_ways s.due.fin (no_fin_again s quiet whole) (is_end_due there n s tied due)
     ]
+
+-- what a half has that may send goes, and nothing else
+module _ (t : Limits) (recvs : Tables RecvLane) (o : Outgoing) (e : End) (n : ℕ) where
+  abbrev there : End
+  there = end_by t recvs o e
+
+  ends_go : (s : Sending) → HasSending o n s → may_end s ≡ true → StreamGoes there n
+  ends_go s h is = let (due, whole) = end_parts s is in (s.lane, h.lane, inr (end_due_is there n s h.tied h.lawful due, whole))
+
+  fresh_goes : (s : Sending) → HasSending o n s → is_some s.lane.was_reset ≡ false → s.lane.sent_end < s.lane.written → s.lane.sent_end < s.lane.limit → sent_sum o.sends < t.known_data → StreamGoes there n
+  fresh_goes s h alive some below credit = (s.lane, h.lane, inl (s.lane.sent_end, due_is there n s h.tied h.lawful s.lane.sent_end (h.lawful.parts.unsent_due alive s.lane.sent_end (omega arith) some), below, inr (refl, credit)))
+
+  again_goes : (s : Sending) → HasSending o n s → (q : ℕ) → set.contains s.due.offsets q ≡ true → q < s.lane.sent_end → StreamGoes there n
+  again_goes s h q due before = (s.lane, h.lane, inl (q, due_is there n s h.tied h.lawful q due, omega (arith, before, h.lawful.order.sent_limit), inl before))
+
+  goes_fresh : HasTaskAt send_tasks.Bytes o n → sent_sum o.sends < t.known_data → StreamGoes there n
+  goes_fresh (s, h, some) credit = go (has_unsent s.lane) (may_end s) (is_due_below s s.lane.limit) refl refl refl some
+    where
+      alive : (q : ℕ) → set.contains s.due.offsets q ≡ true → (b : Bool) → is_some s.lane.was_reset ≡ b → b ≡ false
+      alive q due false is = refl
+      alive q due true is = absurd (true≢false (sym due ∙ ap (λ x. set.contains x q) (h.lawful.parts.none_due is) ∙ set.contains-empty nat_cmp q))
+
+      go : (u f d : Bool) → has_unsent s.lane ≡ u → may_end s ≡ f → is_due_below s s.lane.limit ≡ d → (u || (f || d)) ≡ true → StreamGoes there n
+      go true f d u_is f_is d_is any = let (open_lane, below) = unsent_below s.lane u_is in fresh_goes s h open_lane (omega (arith, below)) (omega (arith, below)) credit
+      go false true d u_is f_is d_is any = ends_go s h f_is
+      go false false true u_is f_is d_is any =
+          let (q, due, below) = below_due s s.lane.limit d_is in
+          elim (cases_lt q s.lane.sent_end) [
+            | inl before ↦ again_goes s h q due before
+            | inr past ↦ (let lt = h.lawful.parts.due_written q due in fresh_goes s h (alive q due (is_some s.lane.was_reset) refl) (omega (arith, past, lt)) (omega (arith, past, below)) credit)
+          ]
+      go false false false u_is f_is d_is any = absurd (true≢false (sym any))
+
+  goes_again : HasTaskAt send_tasks.Again o n → StreamGoes there n
+  goes_again (s, h, some) = go (may_end s) (is_due_below s s.lane.sent_end) refl refl some
+    where
+      go : (f d : Bool) → may_end s ≡ f → is_due_below s s.lane.sent_end ≡ d → (f || d) ≡ true → StreamGoes there n
+      go true d f_is d_is any = ends_go s h f_is
+      go false true f_is d_is any = let (q, due, before) = below_due s s.lane.sent_end d_is in again_goes s h q due before
+      go false false f_is d_is any = absurd (true≢false (sym any))
+
+  pub goes_with : HasTaskAt (going_task (sent_sum o.sends) t.known_data) o n → StreamGoes there n
+  goes_with has_it = go (nat_lt (sent_sum o.sends) t.known_data) refl has_it
+    where
+      go : (b : Bool) → nat_lt (sent_sum o.sends) t.known_data ≡ b → HasTaskAt (if b then send_tasks.Bytes else send_tasks.Again) o n → StreamGoes there n
+      go true is has_it = goes_fresh has_it (grind (arith, nat_tests))
+      go false is has_it = goes_again has_it
+
+  pub goes_without : IsQuietAt (going_task (sent_sum o.sends) t.known_data) o n → StreamGoes there n → ⊥
+  goes_without quiet = go (nat_lt (sent_sum o.sends) t.known_data) refl quiet
+    where
+      go : (b : Bool) → nat_lt (sent_sum o.sends) t.known_data ≡ b → IsQuietAt (if b then send_tasks.Bytes else send_tasks.Again) o n → StreamGoes there n → ⊥
+      go true is quiet = no_goes o n quiet t recvs e
+      go false is quiet = no_goes_again o n quiet t recvs e (grind (arith, nat_tests))
+
+pub goes_found : (t : Limits) (recvs : Tables RecvLane) (o : Outgoing) (e : End) (r : Option ℕ) → IfSome r (HasTaskAt (going_task (sent_sum o.sends) t.known_data) o) → IfSome r (StreamGoes (end_by t recvs o e))
+goes_found t recvs o e None has_it = tt
+goes_found t recvs o e (Some n) has_it = goes_with t recvs o e n has_it
 
 -- the streams below a number want no more, and those up to the next one that is looked at
 pub wants_next : (o : Outgoing) (from m : ℕ) → ((n : ℕ) → n < from → WantsMore (lookup o.sends n) → ⊥) → ((n : ℕ) → from ≤ n → n < m → IsQuietAt send_tasks.Bytes o n) → (WantsMore (lookup o.sends m) → ⊥) → (n : ℕ) → n < m + 1 → WantsMore (lookup o.sends n) → ⊥

@@ -4,8 +4,9 @@ use Rattle.qs_calls.specs.declared.making.MakeFault.TheVariants as making
 use Rattle.qs_conn.specs.declared.due.Kind.TheVariants as kinds
 use Rattle.qs_conn.specs.declared.due.Slot.TheVariants as slots
 use Rattle.qs_conn.specs.declared.send_marks.Task.TheVariants as tasks
-use Rattle.std.proofs.Common.{◌≡◌, ◌≢◌, ℕ, zero, suc, ◌+◌, ◌-◌, ◌*◌, ◌/◌, ◌%◌, ◌<◌, ◌≤◌, ◌==◌, ◌^◌, Bool, true, false, ◌&&◌, ◌||◌, cond, nat_le, List, [], ◌∷◌, length, zip, Option, Some, None, slice_get, option_map, refl, sym, ap, ◌∙◌, arith, inl, inr, ◌++◌, subst, ◌↔◌, is_some, Ok, take, not, max, nat_eq, is_none, ◌⊎◌, min, IsTrue}
+use Rattle.std.proofs.Common.{◌≡◌, ◌≢◌, ℕ, zero, suc, ◌+◌, ◌-◌, ◌*◌, ◌/◌, ◌%◌, ◌<◌, ◌≤◌, ◌==◌, ◌^◌, Bool, true, false, ◌&&◌, ◌||◌, cond, nat_le, List, [], ◌∷◌, length, zip, Option, Some, None, slice_get, option_map, refl, sym, ap, ◌∙◌, arith, inl, inr, ◌++◌, subst, ◌↔◌, is_some, Ok, take, not, max, nat_eq, is_none, ◌⊎◌, IsTrue}
 use Rattle.std.specs.List.{filter, AllByRecursion}
+use Rattle.std.specs.Option.{IfSome}
 use Rattle.std.proofs.lemmas.Bool.{true≢false, and_right, cases_eq}
 use Rattle.std.proofs.lemmas.Option.{slice_get_past, same_Some}
 use Rattle.std.proofs.lemmas.Bool.Decides.{nat_tests}
@@ -13,7 +14,7 @@ use Rattle.qs_wire.specs.declared.stream_id.Role.{Role}
 use Rattle.qs_wire.specs.declared.stream_id.Role.TheVariants.{Client, Server}
 use Rattle.qs_recv.specs.Lane.{RecvLane, new_lane as new_recv_lane, raise, breaks_known, check_stream}
 use Rattle.qs_recv.specs.declared.credit.Share.{Share}
-use Rattle.qs_send.specs.Lane.{SendLane, new_lane as new_send_lane, Sending}
+use Rattle.qs_send.specs.Lane.{SendLane, new_lane as new_send_lane}
 use Rattle.qs_machine.specs.Tables.{Tables, table, lookup, updated, no_streams, open_to, each}
 use Rattle.qs_machine.specs.Ends.{is_uni, role_bit, End, Records, recv_lane, new_end}
 use Rattle.qs_machine.specs.Credit.{recv_ended, send_ended, both_ended, settle}
@@ -29,7 +30,7 @@ use Rattle.qs_send.specs.declared.piece.Piece.{Piece}
 use Rattle.qs_send.specs.declared.piece.Piece.TheVariants.{Data}
 use Rattle.qs_machine.specs.Seen.{Seen, Stream, seen, seen_all, asks_ack, any_asks, Control}
 use Rattle.qs_machine.specs.Lawful.{Fills, frame_put, pieces_so_far}
-use Rattle.qs_machine.specs.Outgoing.{with_pending, AreBelow, Outgoing, HasSending, ChunkFound, sent_sum, item_put_out}
+use Rattle.qs_machine.specs.Outgoing.{with_pending, AreBelow, Outgoing, sent_sum, item_put_out}
 use Rattle.qs_machine.proofs.Carried.{get_new}
 use Rattle.qs_conn.specs.Filling.{pieces_at, data_or, last_data, InPacket, end_by, PackedBy, IsWished, IsAckLeft, frame_of_item, IsCurrentIn, PutsItem, Begun, Packed, slot_place, slot_past, IsPassed, Stage, all_items, HasSpare, HasOneSpare, slot_at, slot_of}
 use Rattle.std.specs.Prelude.{Err, if◌then◌else◌, unwrap_or}
@@ -48,10 +49,10 @@ use Rattle.qs_machine.specs.InOrder.{AreInOrder, NothingStarves, NoItemStarves}
 use Rattle.qs_conn.specs.declared.middle.Core.{Core}
 use Rattle.qs_conn.specs.Middle.{end_of, IsCore, IsStill, HasMemory, HoldsAtMost, own_items}
 use Rattle.qs_conn.proofs.Stages.{packed_same, packed_none, packed_asks, packed_made, packed_some, passed_slot, goes_next, goes_alone, begun_more, begun_item, begun_too_long}
-use Rattle.qs_conn.proofs.Flows.{within_goes, two, ties_of, none_goes, chunk_goes, Allowed}
+use Rattle.qs_conn.proofs.Flows.{within_goes, two, ties_of, chunk_goes, Allowed}
 use Rattle.qs_send.specs.declared.piece.Item.{Item}
 use Rattle.qs_conn.specs.declared.due.Slot.{Slot}
-use Rattle.qs_conn.specs.Marks.{AddsIdle, IsIdle}
+use Rattle.qs_conn.specs.Marks.{AddsIdle, IsBefore, IsDueIn, IsIdle}
 use Rattle.qs_conn.proofs.EachItem.{each_item}
 use Rattle.qs_ranges.proofs.Sets.{below-end_of, covers-is}
 use Rattle.qs_recv.specs.Lawful.{IsLawful}
@@ -59,9 +60,7 @@ use Rattle.qs_recv.specs.Changes.{stream_changes}
 use Rattle.qs_recv.specs.declared.half.Highest.{Highest}
 use Rattle.qs_machine.specs.Changes.{changes}
 use Rattle.qs_machine.specs.Verdicts.{or_else, state_fault_in, credit_fault, bytes_fault, lane_of, verdict}
-use Rattle.qs_send.specs.Chunks.{has_unsent}
-use Rattle.qs_conn.specs.Sending.{Tells, TellsDue, TellsGoing, TellsItem, TellsWanted}
-use Rattle.qs_conn.proofs.Outboxes.{due_is}
+use Rattle.qs_conn.specs.Sending.{Tells, TellsDue, TellsItem, TellsWanted}
 use Rattle.qs_send.specs.declared.piece.Item.TheVariants.{MaxData, MaxStreams, DataBlocked, StreamsBlocked}
 use Rattle.qs_conn.specs.declared.due.Due.{Due}
 use Rattle.qs_conn.specs.declared.due.Kind.{Kind}
@@ -609,9 +608,9 @@ pub tells_more : (e : End) (b : Bool) (P Q : ℕ × ℕ) → AddsIdle e (IsPasse
 tells_more e b P Q adds found = grind (arith, nat_tests)
 
 -- a slot with an item
-pub tells_item : (e : End) (s : Slot) (i : Item) (covered : Bool) → IsCurrentIn e s (Some i) → (covered ≡ true → IsCovered e i) → (covered ≡ false → IsCovered e i → ⊥) → TellsDue false e (slot_place s) → TellsDue (not covered) e (slot_past s)
-tells_item e s i true c told free before = λ j p due. elim (passed_slot s (slot_of j) p) [ inl was ↦ before j was due | inr is ↦ due.1 (subst (IsCovered e) (sym (c.2 j is due.0)) (told refl)) ]
-tells_item e s i false c told free before = (i, (c.0, free refl))
+pub tells_item : (e : End) (s : Slot) (o : Option Item) → IsDueIn e s o → TellsDue false e (slot_place s) → TellsDue (is_some o) e (slot_past s)
+tells_item e s None idle before = λ j p due. elim (passed_slot s (slot_of j) p) [ inl was ↦ before j was due | inr is ↦ due.1 (idle j is due.0) ]
+tells_item e s (Some i) (c, free) before = (i, (c.0, free))
 
 -- all of them
 pub tells_all : (e : End) (b : Bool) → TellsDue b e all_items → Tells b ((i : Item) × IsDueItem e i)
@@ -641,17 +640,15 @@ tells_at v old c b P same parts tells = subst (λ e. IsTrue b ↔ P e) same (tel
 
 -- Streams
 
-module _ (t : Limits) (recvs : Tables RecvLane) (o : Outgoing) (e : End) (n : ℕ) (s : Sending) (h : HasSending o n s) where
-  pub going_found : (fresh : ℕ) (found : Option Chunk) → fresh ≡ t.known_data - sent_sum o.sends → sent_sum o.sends ≤ t.known_data → ChunkFound s 25 fresh found → TellsGoing (is_some found) (end_by t recvs o e) n
-  going_found fresh None is credit none = none_goes (end_by t recvs o e) n s 25 (ties_of t recvs o e n s h) (omega arith) credit (rw is at none)
-  going_found fresh (Some c) is credit next = chunk_goes (end_by t recvs o e) n s (ties_of t recvs o e n s h) c next.0.allowed.chunk (omega (arith, next.0.allowed.within_credit, is, credit))
+-- as an answer says
+pub tells_of : (b : Bool) (P : Type 0) → (b ≡ true → P) → (b ≡ false → P → ⊥) → Tells b P
+tells_of true P is isnt = is refl
+tells_of false P is isnt = isnt refl
 
-  -- a half with bytes that were never sent, within the connection's credit
-  pub going_unsent : has_unsent s.lane ≡ true → sent_sum o.sends < t.known_data → StreamGoes (end_by t recvs o e) n
-  going_unsent is credit =
-      let parts : (is_some s.lane.was_reset ≡ false) × (s.lane.sent_end < min s.lane.written s.lane.limit) = grind (arith, nat_tests, is) in
-      let there = h.lawful.parts.unsent_due parts.0 s.lane.sent_end (omega arith) (omega (arith, parts.1)) in
-      (s.lane, h.lane, inl (s.lane.sent_end, due_is (end_by t recvs o e) n s h.tied h.lawful s.lane.sent_end there, omega (arith, parts.1), inr (refl, credit)))
+-- as a search for one finds it
+pub tells_any : (P : ℕ → Type 0) (r : Option ℕ) → IfSome r P → ((n : ℕ) → IsBefore n r → P n → ⊥) → Tells (is_some r) ((n : ℕ) × P n)
+tells_any P None found none = λ (n, p). none n tt p
+tells_any P (Some n) found none = (n, found)
 
 -- Of what is asked for
 
@@ -757,6 +754,3 @@ module _ (c : Core) (n : ℕ) (chunk : Chunk) (left fresh : ℕ) (a : Allowed c.
 -- how many items of the connection itself a slot has
 pub own_kind : (kind : Kind) (n : ℕ) → own_items (slot_at kind n) ≡ 0
 own_kind kind n = grind (arith, nat_tests)
-
-pub own_most : (slot : Slot) → own_items slot ≤ 1
-own_most slot = grind (arith, nat_tests)

@@ -14,8 +14,6 @@ use Rattle.qs_send.specs.Lane.{SendLane, Sending, new_sending, new_lane, accepte
 use Rattle.qs_send.specs.Sound.{IsLawful}
 use Rattle.qs_machine.specs.Due.{IsDue, IsEndDue}
 use Rattle.qs_machine.specs.Outgoing.{IsCarried, IsTied, Outgoing, with_sends, on_lane, sent_sum, lanes_of, with_pending, AreOfOpen, AreTied, IsOutbox, HasSending, AreBelow, AreSent, IsSentPiece, IsOfReset, IsIdle, first_piece, acked_at, piece_acked_out, first_acked_out, first_lost_out, halves_acked, items_acked, halves_lost}
-use Rattle.std.specs.Option.{IfSome}
-use Rattle.qs_conn.specs.Tasks.{IsOpen}
 use Rattle.std.specs.Result.{OnOk, OnErr, IfOk, IfErr}
 use Rattle.qs_send.specs.declared.parts.SendFault.{SendFault}
 use Rattle.qs_send.specs.declared.parts.SendFault.TheVariants.{NoMemory as SendNoMemory}
@@ -302,9 +300,6 @@ sending_is e now t n s is sends there law tied =
     subst (λ o. HasSending o n s) is (record { lane = ap (λ x. lookup x n) sends ∙ lane_there t n s there; lawful = law; tied = tied; flight = tied_flight e.outstanding n s law tied })
 
 -- Readers
-
-pub some_open : (e now : Outgoing) (t : Tables Sending) (r : Option ℕ) → e ≡ now → e.sends ≡ lanes_of t → IfSome r (IsOpen t) → IfSome r (IsOpen now.sends)
-some_open e now t r is sends there = grind (arith, nat_tests, open_now)
 
 pub no_lookup : (e now : Outgoing) (t : Tables Sending) (n : ℕ) → e ≡ now → e.sends ≡ lanes_of t → is_some (lookup t n) ≡ false → lookup now.sends n ≡ None
 no_lookup e now t n is sends none = go (lookup now.sends n) refl (sym (open_now e now t n is sends) ∙ none)

@@ -20,16 +20,12 @@ use Rattle.qs_conn.proofs.Untolds.{acked_out}
 use Rattle.qs_conn.proofs.Dues.{came, first_is, told_same}
 use Rattle.qs_conn.proofs.DuePackets.{kind_tells, left_as, left_is, out_less, out_still}
 use Rattle.qs_conn.specs.Due.{AreDue, IsMarkedAt, IsToldIn, Packets, packets_of, marks_of}
-use Rattle.qs_conn.specs.Marks.{IsIdle}
 use Rattle.qs_conn.specs.declared.due.Due.{Due}
 use Rattle.qs_conn.specs.declared.due.Kind.{Kind}
 use Rattle.qs_conn.specs.declared.due.Slot.{Slot}
 use Rattle.qs_conn.specs.declared.due.Kind.TheVariants as kinds
 use Rattle.qs_conn.specs.Filling.{slot_at}
-use Rattle.qs_conn.specs.Middle.{own_items}
-use Rattle.qs_conn.proofs.MadePackets.{own_kind}
 use Rattle.std.specs.Result.{OnErr}
-use Rattle.std.specs.Option.{IfSome}
 use Rattle.qs_recv.specs.Lane.{RecvLane}
 use Rattle.qs_send.specs.declared.parts.Chunk.{Chunk}
 use Rattle.qs_send.specs.declared.piece.Item.TheVariants.{MaxData, MaxStreamData, ResetStream, StopSending, StreamDataBlocked, MaxStreams, DataBlocked, StreamsBlocked}
@@ -37,7 +33,7 @@ use Rattle.qs_machine.specs.Due.{IsCurrent, IsCovered}
 use Rattle.qs_machine.specs.FrameStep.{without_first, greatest}
 use Rattle.qs_conn.specs.declared.limits.Limits.{Limits}
 use Rattle.qs_conn.specs.declared.by_dir.ByDir.{ByDir}
-use Rattle.qs_conn.specs.Filling.{end_by, slot_of, IsCurrentIn}
+use Rattle.qs_conn.specs.Filling.{end_by, slot_of}
 use Rattle.qs_conn.specs.Runs.{held_out}
 use Rattle.std.proofs.Math.ListN.{set}
 use Rattle.std.proofs.lemmas.List.{length-set, get_or-set_same, get_or-set_other, get_or-replicate}
@@ -374,22 +370,6 @@ module _ (l : Limits) (recvs : Tables RecvLane) (o : Outgoing) (e : End) (xs : K
   kept_covered : (i : Item) → has_own i xs ≡ true → own_value i ≡ present_at l (own_place i) → IsCovered there i
   kept_covered i has now = told_in i ((h.each i (own_yes i xs has).0).told (own_yes i xs has).1 now)
 
-  pub present_idle : (i : Item) (slot : Slot) → slot_of i ≡ slot → own_value i ≡ present_at l (own_place i) → has_own i xs ≡ true → IsIdle there slot
-  present_idle i slot at now has j same current =
-      let places : own_place j ≡ own_place i = same_place j i (same ∙ sym at) in
-      let own = (own_yes i xs has).0 in
-      let own_j : own_place j < 6 = subst (λ k. k < 6) (sym places) own in
-      let value : own_value j ≡ own_value i = own_present l recvs o e j own_j current ∙ ap (present_at l) places ∙ sym now in
-      subst (IsCovered there) (own_same i j own own_j (sym places) (sym value)) (kept_covered i has now)
-    where
-      same_place : (j i : Item) → slot_of j ≡ slot_of i → own_place j ≡ own_place i
-      same_place j i same = grind (arith, nat_tests)
-
-  -- a slot is idle where nothing of it is current, or what is current is kept
-  pub slot_idle : (item : Option Item) (slot : Slot) → IsCurrentIn there slot item → IfSome item (λ i. has_own i xs ≡ true) → IsIdle there slot
-  slot_idle None slot current has j same now = absurd (current j same now)
-  slot_idle (Some i) slot (current, at, only) has j same now = subst (IsCovered there) (sym (only j same now)) (kept_covered i has (own_present l recvs o e i (own_yes i xs has).0 current))
-
 -- an item is of the connection itself, or of a half
 item_slot : (i : Item) → (own_place i < 6) ⊎ ((kind : Kind) × (n : ℕ) × (slot_of i ≡ slot_at kind n))
 item_slot (MaxStreamData n m) = inr (kinds.MaxStreamData, n, refl)
@@ -429,10 +409,6 @@ module _ (l : Limits) (recvs : Tables RecvLane) (o : Outgoing) (e : End) (xs : K
 -- a slot of a half with a mark
 pub marked_at : (t : Due) (kind : Kind) (n : ℕ) → is_told (marks_of kind t) n ≡ true → IsMarkedAt t (slot_at kind n)
 marked_at t kind n is = grind (arith, nat_tests)
-
--- one of the connection itself has none
-pub none_marked : (t : Due) (slot : Slot) → own_items slot ≡ 1 → IsMarkedAt t slot
-none_marked t slot own kind n is = grind (arith, nat_tests, own_kind)
 
 -- Refusals
 

@@ -10,7 +10,7 @@ use Rattle.qs_machine.specs.Ends.{End}
 use Rattle.qs_machine.specs.News.{IsHeld, IsEnded}
 use Rattle.qs_machine.specs.Heard.{is_told}
 use Rattle.qs_machine.specs.Due.{IsCurrent, IsCovered}
-use Rattle.qs_conn.specs.Filling.{slot_of}
+use Rattle.qs_conn.specs.Filling.{slot_of, IsCurrentIn}
 
 -- whether an index is marked
 abbrev pub is_marked : List Bool → ℕ → Bool
@@ -155,3 +155,8 @@ IsIdle e slot = (i : Item) → slot_of i ≡ slot → IsCurrent e i → IsCovere
 -- of the slots of the second sort that aren't of the first, all that is current was told
 abbrev pub AddsIdle : End → (P Q : Slot → Type 0) → Type 0
 AddsIdle e P Q = (s : Slot) → Q s → P s ⊎ IsIdle e s
+
+-- what of the slot is due: its current item, where that wasn't told already; or there is none
+abbrev pub IsDueIn : End → Slot → Option Item → Type 0
+IsDueIn e slot None = IsIdle e slot
+IsDueIn e slot (Some i) = IsCurrentIn e slot (Some i) × (IsCovered e i → ⊥)

@@ -1,6 +1,6 @@
 -- Of private contracts.
 -- Which sending halves have something for a packet or for their owner, by what it is, and those that have not.
-use Rattle.std.specs.Prelude.{◌≡◌, ℕ, ◌≤◌, ◌<◌, ◌⊎◌, ◌&&◌, ◌||◌, ◌==◌, nat_lt, Bool, true, false, List, Some, is_some, ⊤}
+use Rattle.std.specs.Prelude.{if◌then◌else◌, ◌≡◌, ℕ, ◌≤◌, ◌<◌, ◌⊎◌, ◌&&◌, ◌||◌, ◌==◌, nat_lt, Bool, true, false, List, Some, is_some, ⊤}
 use Rattle.std.specs.List.{list_any, range_with_len}
 use Rattle.std.specs.FinSet as set
 use Rattle.qs_send.specs.declared.parts.Chunk.{Chunk}
@@ -122,6 +122,14 @@ counted moves.All n = n
 -- the stream's half, where it has one, has nothing of the kind
 abbrev pub IsQuietAt : Task → Outgoing → ℕ → Type 0
 IsQuietAt t o n = (l : SendLane) → lookup o.sends n ≡ Some l → (s : Sending) × (s.lane ≡ l) × IsTied o.outstanding n s × IsQuiet t s
+
+-- it has something of it
+abbrev pub HasTaskAt : Task → Outgoing → ℕ → Type 0
+HasTaskAt t o n = (s : Sending) × HasSending o n s × HasTask t s
+
+-- what a half has that may send: any bytes and the end while the connection has credit, and else what takes none (RFC 9000, section 4.1)
+abbrev pub going_task : (sent known : ℕ) → Task
+going_task sent known = if nat_lt sent known then tasks.Bytes else tasks.Again
 
 -- the stream has a half
 abbrev pub IsOpen : {X : Type 0} → Tables X → ℕ → Type 0

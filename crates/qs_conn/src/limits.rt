@@ -1,5 +1,5 @@
 //! Which control items an endpoint has to send.
-ghost use Rattle.std.specs.Prelude.{◌≡◌, ◌≤◌, ◌<◌, ◌↔◌, IsTrue, true, None, Some};
+ghost use Rattle.std.specs.Prelude.{◌≡◌, ◌≤◌, ◌<◌, ◌↔◌, IsTrue, None, Some};
 ghost use Rattle.qs_ranges.specs.Numbers.{MAX_VARINT};
 ghost use Rattle.qs_recv.specs.Lane.{MAX_CONN_WINDOW, RecvLane};
 ghost use Rattle.qs_conn.specs.declared.due.Slot.TheVariants as slots;
@@ -9,15 +9,11 @@ ghost use Rattle.qs_machine.specs.Setting.{count_with};
 ghost use Rattle.qs_conn.specs.declared.limits.Limits.{Limits};
 ghost use Rattle.qs_machine.specs.Outgoing.{Outgoing};
 ghost use Rattle.qs_conn.specs.Filling.{end_by, IsCurrentIn, ItemFits, LimitsFit, with_window, with_grant, AnyWantsMore};
-ghost use Rattle.qs_conn.specs.Marks.{IsIdle};
-ghost use Rattle.qs_conn.specs.Due.{packets_of};
-ghost use Rattle.qs_conn.specs.OwnTold.{AreOwn};
 
 use crate::by_dir::ByDir;
 use crate::due::Slot;
 use crate::endpoint::{is_uni, role_bit};
 use crate::outbox::Outbox;
-use crate::own_told::OwnTold;
 use crate::places::type_of;
 use crate::recv_tables::RecvTables;
 use crate::send_marks::Task;
@@ -62,36 +58,6 @@ impl Limits {
             Slot::StreamDataBlocked(stream) => stream_data_blocked(outbox, stream),
             Slot::StreamsBlocked(dir) => self.streams_blocked(dir),
         }
-    }
-
-    /// Whether a look at few numbers shows that no item is due, as is mostly so: then no half is looked at.
-    #[inline(always)]
-    pub(crate) fn has_told(&self, outbox: &Outbox, own: &OwnTold, slot: &Slot) -> bool
-        requires fits { LimitsFit self.now }
-        requires own { AreOwn self.now (packets_of outbox.now) own.now }
-        ensures { result ≡ true → (recvs : Tables RecvLane) (e : End) → IsIdle (end_by self.now recvs outbox.now e) slot.now }
-    {
-        match *slot {
-            Slot::MaxData => own.has_told(self.max_data()),
-            Slot::MaxStreams(dir) => own.has_told(self.max_streams(dir)),
-            Slot::DataBlocked => self.has_told_blocked(outbox, own),
-            Slot::StreamsBlocked(dir) => own.has_told(self.streams_blocked(dir)),
-            _ => false,
-        }
-    }
-
-    // No stream is looked at.
-    #[inline(always)]
-    #[tactic(auto, using(crate::proofs::Owns::present_idle, crate::proofs::Untolds::of_slot))]
-    fn has_told_blocked(&self, outbox: &Outbox, own: &OwnTold) -> bool
-        requires { AreOwn self.now (packets_of outbox.now) own.now }
-        ensures { result ≡ true → (recvs : Tables RecvLane) (e : End) → IsIdle (end_by self.now recvs outbox.now e) slots.DataBlocked }
-    {
-        if outbox.sent_sum() < self.known_data {
-            return true;
-        }
-        let limit = self.known_data;
-        own.has(&Item::DataBlocked { limit })
     }
 
     /// A greater window moves the limit at once (RFC 9000, section 4.1): a step that is never reached would hide it.
@@ -179,6 +145,7 @@ impl Limits {
     }
 
     // Only while some stream has bytes that nothing else holds back, so that it is said of the limit that blocks.
+    #[inline(always)]
     #[tactic(auto, using(crate::proofs::Untolds::data_blocked_there, crate::proofs::Untolds::data_blocked_none))]
     fn data_blocked(&self, outbox: &Outbox) -> Option<Item>
         requires { LimitsFit self.now }

@@ -1,4 +1,4 @@
-ghost use Rattle.std.specs.Prelude.{◌≡◌, ◌↔◌, IsTrue, true, false, None, IfSome, replicate};
+ghost use Rattle.std.specs.Prelude.{◌≡◌, ◌↔◌, IsTrue, true, false, None, replicate};
 ghost use Rattle.qs_send.specs.PieceCodes.{dir_number};
 ghost use Rattle.qs_machine.specs.Outgoing.{IsAckedOut};
 ghost use Rattle.qs_conn.specs.OwnTold.{own_place, own_value, has_own, own_with, own_without};
@@ -49,17 +49,6 @@ impl OwnTold {
             return false;
         }
         matches!(self.values[place], Some(value) if value == value_of(item))
-    }
-
-    /// The same of an item, where there is one.
-    #[inline(always)]
-    pub(crate) fn has_told(&self, item: Option<Item>) -> bool
-        ensures { result ≡ true → IfSome item (λ i. has_own i self.now ≡ true) }
-    {
-        match item {
-            Some(item) => self.has(&item),
-            None => true,
-        }
     }
 
     pub(crate) fn is_told(&self, outbox: &Outbox, item: &Item) -> bool

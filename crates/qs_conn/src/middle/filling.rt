@@ -5,7 +5,7 @@ ghost use Rattle.qs_ranges.specs.Numbers.{run_starts};
 ghost use Rattle.qs_send.specs.declared.piece.Piece.{Piece};
 ghost use Rattle.qs_machine.specs.Tables.{lookup};
 ghost use Rattle.qs_machine.specs.Due.{StreamGoes};
-ghost use Rattle.qs_machine.specs.Outgoing.{IsBlockedAt};
+ghost use Rattle.qs_machine.specs.Outgoing.{IsBlockedAt, sent_sum};
 ghost use Rattle.qs_machine.specs.Heard.{is_told};
 ghost use Rattle.qs_conn.specs.Due.{IsMarkedAt, IsNotedBlock, marks_of};
 ghost use Rattle.qs_machine.specs.Ends.{End};
@@ -14,7 +14,7 @@ ghost use Rattle.qs_conn.specs.declared.filling.Wish.{Wish};
 ghost use Rattle.qs_conn.specs.Middle.{IsCore, IsFilling, FillsOn, HasMemory, HoldsAtMost, IsStill, own_items, end_of};
 ghost use Rattle.qs_conn.specs.Filling.{slot_at, slot_place, slot_past, kind_first, kind_past, no_slot, all_items, Stage, Flow, PackedBy, IsAckLeft, InPacket, turn_at, start_of, way_end, IsOnWay};
 ghost use Rattle.qs_conn.specs.Marks.{IsBefore, IsIdle};
-ghost use Rattle.qs_conn.specs.Tasks.{IsOpen};
+ghost use Rattle.qs_conn.specs.Tasks.{IsOpen, going_task};
 
 use super::Core;
 use crate::due::{Due, Kind, Slot};
@@ -94,16 +94,16 @@ impl Core {
         if !wish.want.items {
             return packet;
         }
-        let packet = self.put_own_slot(Slot::MaxData, out, packet);
-        let packet = self.put_own_slot(Slot::MaxStreams(Dir::Bidi), out, packet);
-        let packet = self.put_own_slot(Slot::MaxStreams(Dir::Uni), out, packet);
+        let packet = self.put_slot(Slot::MaxData, out, packet);
+        let packet = self.put_slot(Slot::MaxStreams(Dir::Bidi), out, packet);
+        let packet = self.put_slot(Slot::MaxStreams(Dir::Uni), out, packet);
         let packet = self.put_kind(Kind::ResetStream, out, packet);
         let packet = self.put_kind(Kind::StopSending, out, packet);
         let packet = self.put_kind(Kind::MaxStreamData, out, packet);
-        let packet = self.put_own_slot(Slot::DataBlocked, out, packet);
+        let packet = self.put_slot(Slot::DataBlocked, out, packet);
         let packet = self.put_kind(Kind::StreamDataBlocked, out, packet);
-        let packet = self.put_own_slot(Slot::StreamsBlocked(Dir::Bidi), out, packet);
-        self.put_own_slot(Slot::StreamsBlocked(Dir::Uni), out, packet)
+        let packet = self.put_slot(Slot::StreamsBlocked(Dir::Bidi), out, packet);
+        self.put_slot(Slot::StreamsBlocked(Dir::Uni), out, packet)
     }
 
     // Mostly a look at how many marks there are shows that none is due.
@@ -167,25 +167,8 @@ impl Core {
         self.due.marks(kind).next(from)
     }
 
-    // Mostly a look at two numbers shows that none is due.
     #[tactic(auto, using(crate::proofs::Cores::fills_same))]
     #[inline(always)]
-    fn put_own_slot(&mut self, slot: Slot, out: &mut [u8], packet: Packet) -> Packet
-        requires own { own_items slot ≡ 1 }
-        requires filling { IsFilling self.old out.old packet.len }
-        requires memory { HasMemory self.old (length out.old) packet.len 1 }
-        ensures stage { (wish : Wish) (room : ℕ) (old e : End) → room ≡ length out.old
-            → Stage wish room old (take packet.len out.old) (end_of self.old e) packet.is_full (slot_place slot)
-            → Stage wish room old (take result.len out.new) (end_of self.new e) result.is_full (slot_past slot) }
-        ensures filled { FillsOn self.old out.old packet.len self.new out.new result.len 1 }
-    {
-        if self.limits.has_told(&self.outbox, &self.own, &slot) {
-            return packet;
-        }
-        self.put_slot(slot, out, packet)
-    }
-
-    #[tactic(auto, using(crate::proofs::Cores::fills_same))]
     fn put_slot(&mut self, slot: Slot, out: &mut [u8], packet: Packet) -> Packet
         requires marked { IsMarkedAt self.old.due slot }
         requires filling { IsFilling self.old out.old packet.len }
@@ -196,13 +179,10 @@ impl Core {
         ensures filled { FillsOn self.old out.old packet.len self.new out.new result.len (own_items slot) }
         ensures idle { result.is_full ≡ false → (e : End) → IsIdle (end_of self.new e) slot }
     {
-        if packet.is_full {
-            return packet;
-        }
-        let Some(item) = self.limits.current(&self.outbox, &self.recvs, slot) else {
+        let Some(item) = self.due_in(slot) else {
             return packet;
         };
-        if self.own.is_told(&self.outbox, &item) {
+        if packet.is_full {
             return packet;
         }
         let packet = put_item(&mut self.outbox, &item, out, packet);
@@ -268,20 +248,28 @@ impl Core {
         packet
     }
 
-    /// While the connection's credit is used up, only bytes that were sent before may go (RFC 9000, section 4.1): streams with new ones are
-    /// passed over by their marks.
     #[inline(always)]
     pub(super) fn next_going(&self, from: u64) -> Option<StreamId>
         requires core { IsCore self.now }
         requires from { from ≤ 2 ^ 62 }
         ensures from { IfSome result (λ n. from ≤ n) }
         ensures open { IfSome result (IsOpen self.now.outbox.sends) }
+        ensures goes { (e : End) → IfSome result (StreamGoes (end_of self.now e)) }
         ensures none { (n : ℕ) (e : End) → from ≤ n → IsBefore n result → StreamGoes (end_of self.now e) n → ⊥ }
     {
+        self.outbox.next_marked(self.going_task(), from)
+    }
+
+    /// While the connection's credit is used up, only bytes that were sent before may go (RFC 9000, section 4.1): streams with new ones are
+    /// passed over by their marks.
+    #[inline(always)]
+    pub(super) fn going_task(&self) -> Task
+        ensures { result ≡ going_task (sent_sum self.now.outbox.sends) self.now.limits.known_data }
+    {
         if self.outbox.sent_sum() < self.limits.known_data {
-            return self.outbox.next_marked(Task::Bytes, from);
+            return Task::Bytes;
         }
-        self.outbox.next_marked(Task::Again, from)
+        Task::Again
     }
 
     #[tactic(auto, using(crate::proofs::Cores::fills_same, crate::proofs::Flows::flow_none))]

@@ -2,14 +2,16 @@
 ghost use Rattle.std.specs.Prelude.{◌≡◌};
 ghost use Rattle.qs_machine.specs.Ends.{End};
 ghost use Rattle.qs_machine.specs.Filling.{still_asked};
-ghost use Rattle.qs_conn.specs.Middle.{IsCore, end_of, own_items};
-ghost use Rattle.qs_conn.specs.Filling.{slot_place, slot_past, kind_first, kind_past, all_items};
+ghost use Rattle.qs_conn.specs.Middle.{IsCore, end_of};
+ghost use Rattle.qs_conn.specs.Filling.{slot_place, slot_past, kind_first, kind_past, all_items, ItemFits};
+ghost use Rattle.qs_conn.specs.Marks.{IsDueIn};
 ghost use Rattle.qs_conn.specs.Due.{IsMarkedAt};
 ghost use Rattle.qs_conn.specs.Sending.{TellsDue, TellsGoing, TellsAnyGoing, TellsFrame, TellsItem, TellsStream, TellsWanted};
 
 use super::Core;
 use crate::due::{Kind, Slot};
 use qs_calls::Fill;
+use qs_send::Item;
 use qs_wire::{Dir, StreamId};
 
 impl Core {
@@ -57,10 +59,10 @@ impl Core {
             return false;
         }
         if want.alone {
-            return self.has_bytes(want.first);
+            return self.goes(want.first);
         }
         if let Some(stream) = *last {
-            if self.has_bytes(stream) {
+            if self.goes(stream) {
                 return true;
             }
         }
@@ -71,16 +73,16 @@ impl Core {
         requires { IsCore self.now }
         ensures { (e : End) → TellsDue result (end_of self.now e) all_items }
     {
-        let found = self.has_own_slot(Slot::MaxData, false);
-        let found = self.has_own_slot(Slot::MaxStreams(Dir::Bidi), found);
-        let found = self.has_own_slot(Slot::MaxStreams(Dir::Uni), found);
+        let found = self.has_slot(Slot::MaxData, false);
+        let found = self.has_slot(Slot::MaxStreams(Dir::Bidi), found);
+        let found = self.has_slot(Slot::MaxStreams(Dir::Uni), found);
         let found = self.has_kind(Kind::ResetStream, found);
         let found = self.has_kind(Kind::StopSending, found);
         let found = self.has_kind(Kind::MaxStreamData, found);
-        let found = self.has_own_slot(Slot::DataBlocked, found);
+        let found = self.has_slot(Slot::DataBlocked, found);
         let found = self.has_kind(Kind::StreamDataBlocked, found);
-        let found = self.has_own_slot(Slot::StreamsBlocked(Dir::Bidi), found);
-        self.has_own_slot(Slot::StreamsBlocked(Dir::Uni), found)
+        let found = self.has_slot(Slot::StreamsBlocked(Dir::Bidi), found);
+        self.has_slot(Slot::StreamsBlocked(Dir::Uni), found)
     }
 
     // Mostly a look at how many marks there are shows that none is due.
@@ -112,22 +114,7 @@ impl Core {
         is_found
     }
 
-    // Mostly a look at two numbers shows that none is due.
     #[inline(always)]
-    fn has_own_slot(&self, slot: Slot, is_found: bool) -> bool
-        requires core { IsCore self.now }
-        requires own { own_items slot ≡ 1 }
-        ensures { (e : End) → TellsDue is_found (end_of self.now e) (slot_place slot) → TellsDue result (end_of self.now e) (slot_past slot) }
-    {
-        if is_found {
-            return true;
-        }
-        if self.limits.has_told(&self.outbox, &self.own, &slot) {
-            return false;
-        }
-        self.has_slot(slot, false)
-    }
-
     fn has_slot(&self, slot: Slot, is_found: bool) -> bool
         requires core { IsCore self.now }
         requires marked { IsMarkedAt self.now.due slot }
@@ -136,41 +123,43 @@ impl Core {
         if is_found {
             return true;
         }
-        let Some(item) = self.limits.current(&self.outbox, &self.recvs, slot) else {
-            return false;
-        };
-        !self.own.is_told(&self.outbox, &item)
+        self.due_in(slot).is_some()
+    }
+
+    /// What of a slot is due: its current item, unless an outstanding packet tells it or an acknowledged one did (RFC 9000, sections 4.1, 4.6
+    /// and 13.3). The one place that says so.
+    #[inline(always)]
+    pub(super) fn due_in(&self, slot: Slot) -> Option<Item>
+        requires core { IsCore self.now }
+        requires marked { IsMarkedAt self.now.due slot }
+        ensures due { (e : End) → IsDueIn (end_of self.now e) slot result }
+        ensures fits { ItemFits result }
+    {
+        if let Slot::DataBlocked = slot {
+            // Before streams are looked at.
+            let limit = self.limits.known_data;
+            if self.own.has(&Item::DataBlocked { limit }) {
+                return None;
+            }
+        }
+        let item = self.limits.current(&self.outbox, &self.recvs, slot)?;
+        if self.own.is_told(&self.outbox, &item) {
+            return None;
+        }
+        Some(item)
     }
 
     fn has_stream(&self) -> bool
         requires { IsCore self.now }
         ensures { (e : End) → TellsAnyGoing result (end_of self.now e) }
     {
-        let mut from = 0;
-        while let Some(stream) = self.next_going(from) {
-            if self.has_bytes(stream) {
-                return true;
-            }
-            from = stream.value() + 1;
-        }
-        false
+        self.next_going(0).is_some()
     }
 
-    fn has_bytes(&self, stream: StreamId) -> bool
+    fn goes(&self, stream: StreamId) -> bool
         requires { IsCore self.now }
         ensures { (e : End) → TellsGoing result (end_of self.now e) stream }
     {
-        // With room for any frame's head and one byte, only limits hold a chunk back.
-        const ENOUGH: usize = 25;
-        let Some(half) = self.outbox.half(stream) else {
-            return false;
-        };
-        let fresh = self.limits.known_data - self.outbox.sent_sum();
-        if fresh > 0 {
-            if half.has_unsent() {
-                return true;
-            }
-        }
-        self.outbox.next_chunk(stream, ENOUGH, fresh).is_some()
+        self.outbox.has(self.going_task(), stream)
     }
 }

@@ -9,11 +9,11 @@ ghost use Rattle.qs_machine.specs.Heard.{is_told};
 ghost use Rattle.qs_conn.specs.Marks.{IsBefore, is_marked};
 ghost use Rattle.qs_conn.specs.Ended.{send_over};
 ghost use Rattle.qs_conn.specs.Sending.{IsDueOf, MayWrite};
-ghost use Rattle.qs_conn.specs.Tasks.{IsOpen, IsQuietAt, has};
+ghost use Rattle.qs_conn.specs.Tasks.{HasTaskAt, IsOpen, IsQuietAt, has};
 ghost use Rattle.qs_machine.specs.Outgoing.{IsAckedOut, IsAckedReset, IsBlockedAt, WantsMore, reset_by, with_outgoing};
 
-use super::Outbox;
-use super::halves::{half_of, marks, may_have, next_sought_of, next_with};
+use super::halves::{half_of, is_open, marks, may_have, next_sought_of, next_with};
+use super::{Outbox, halves};
 use crate::marks::Marks;
 use crate::places::least_stream;
 use crate::send_marks::{Search, Task};
@@ -91,13 +91,30 @@ impl Outbox {
     pub(crate) fn next_marked(&self, task: Task, from: u64) -> Option<StreamId>
         requires { from ≤ 2 ^ 62 }
         ensures from { IfSome result (λ n. from ≤ n) }
-        ensures open { IfSome result (IsOpen self.now.sends) }
+        ensures has { IfSome result (HasTaskAt task self.now) }
         ensures quiet { (n : ℕ) → from ≤ n → IsBefore n result → IsQuietAt task self.now n }
     {
         if !may_have(&self.types, task) {
             return None;
         }
-        next_with(&self.types, task, from)
+        let Some(stream) = next_with(&self.types, task, from) else {
+            return None;
+        };
+        halves::learn_lawful(&self.types, stream);
+        Some(stream)
+    }
+
+    /// Whether a stream's half has a task.
+    pub(crate) fn has(&self, task: Task, stream: StreamId) -> bool
+        ensures yes { result ≡ true → HasTaskAt task self.now stream }
+        ensures no { result ≡ false → IsQuietAt task self.now stream }
+    {
+        let _next = self.next;
+        if is_open(&self.types, stream) {
+            halves::learn_lawful(&self.types, stream);
+            return halves::has(&self.types, stream, task);
+        }
+        false
     }
 
     pub(crate) fn next_writable(&self, from: u64) -> Option<StreamId>

@@ -5,7 +5,6 @@ use crate::proved::qs_conn::by_dir::ByDir;
 use crate::proved::qs_conn::due::Slot;
 use crate::proved::qs_conn::endpoint::{is_uni, role_bit};
 use crate::proved::qs_conn::outbox::Outbox;
-use crate::proved::qs_conn::own_told::OwnTold;
 use crate::proved::qs_conn::places::type_of;
 use crate::proved::qs_conn::recv_tables::RecvTables;
 use crate::proved::qs_conn::send_marks::Task;
@@ -46,28 +45,6 @@ impl Limits {
             Slot::StreamDataBlocked(stream) => stream_data_blocked(outbox, stream),
             Slot::StreamsBlocked(dir) => self.streams_blocked(dir),
         }
-    }
-
-    /// Whether a look at few numbers shows that no item is due, as is mostly so: then no half is looked at.
-    #[inline(always)]
-    pub(crate) fn has_told(&self, outbox: &Outbox, own: &OwnTold, slot: &Slot) -> bool {
-        match *slot {
-            Slot::MaxData => own.has_told(self.max_data()),
-            Slot::MaxStreams(dir) => own.has_told(self.max_streams(dir)),
-            Slot::DataBlocked => self.has_told_blocked(outbox, own),
-            Slot::StreamsBlocked(dir) => own.has_told(self.streams_blocked(dir)),
-            _ => false,
-        }
-    }
-
-    // No stream is looked at.
-    #[inline(always)]
-    fn has_told_blocked(&self, outbox: &Outbox, own: &OwnTold) -> bool {
-        if outbox.sent_sum() < self.known_data {
-            return true;
-        }
-        let limit = self.known_data;
-        own.has(&Item::DataBlocked { limit })
     }
 
     /// A greater window moves the limit at once (RFC 9000, section 4.1): a step that is never reached would hide it.
@@ -139,6 +116,7 @@ impl Limits {
     }
 
     // Only while some stream has bytes that nothing else holds back, so that it is said of the limit that blocks.
+    #[inline(always)]
     fn data_blocked(&self, outbox: &Outbox) -> Option<Item> {
         if outbox.sent_sum() == self.known_data && any_wants_more(outbox) {
             Some(Item::DataBlocked {

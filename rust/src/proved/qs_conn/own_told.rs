@@ -29,15 +29,6 @@ impl OwnTold {
         matches!(self.values[place], Some(value) if value == value_of(item))
     }
 
-    /// The same of an item, where there is one.
-    #[inline(always)]
-    pub(crate) fn has_told(&self, item: Option<Item>) -> bool {
-        match item {
-            Some(item) => self.has(&item),
-            None => true,
-        }
-    }
-
     #[inline]
     pub(crate) fn is_told(&self, outbox: &Outbox, item: &Item) -> bool {
         if self.has(item) {

@@ -55,16 +55,16 @@ impl Core {
         if !wish.want.items {
             return packet;
         }
-        let packet = self.put_own_slot(Slot::MaxData, out, packet);
-        let packet = self.put_own_slot(Slot::MaxStreams(Dir::Bidi), out, packet);
-        let packet = self.put_own_slot(Slot::MaxStreams(Dir::Uni), out, packet);
+        let packet = self.put_slot(Slot::MaxData, out, packet);
+        let packet = self.put_slot(Slot::MaxStreams(Dir::Bidi), out, packet);
+        let packet = self.put_slot(Slot::MaxStreams(Dir::Uni), out, packet);
         let packet = self.put_kind(Kind::ResetStream, out, packet);
         let packet = self.put_kind(Kind::StopSending, out, packet);
         let packet = self.put_kind(Kind::MaxStreamData, out, packet);
-        let packet = self.put_own_slot(Slot::DataBlocked, out, packet);
+        let packet = self.put_slot(Slot::DataBlocked, out, packet);
         let packet = self.put_kind(Kind::StreamDataBlocked, out, packet);
-        let packet = self.put_own_slot(Slot::StreamsBlocked(Dir::Bidi), out, packet);
-        self.put_own_slot(Slot::StreamsBlocked(Dir::Uni), out, packet)
+        let packet = self.put_slot(Slot::StreamsBlocked(Dir::Bidi), out, packet);
+        self.put_slot(Slot::StreamsBlocked(Dir::Uni), out, packet)
     }
 
     // Mostly a look at how many marks there are shows that none is due.
@@ -106,23 +106,12 @@ impl Core {
         self.due.marks(kind).next(from)
     }
 
-    // Mostly a look at two numbers shows that none is due.
     #[inline(always)]
-    fn put_own_slot(&mut self, slot: Slot, out: &mut [u8], packet: Packet) -> Packet {
-        if self.limits.has_told(&self.outbox, &self.own, &slot) {
-            return packet;
-        }
-        self.put_slot(slot, out, packet)
-    }
-
     fn put_slot(&mut self, slot: Slot, out: &mut [u8], packet: Packet) -> Packet {
-        if packet.is_full {
-            return packet;
-        }
-        let Some(item) = self.limits.current(&self.outbox, &self.recvs, slot) else {
+        let Some(item) = self.due_in(slot) else {
             return packet;
         };
-        if self.own.is_told(&self.outbox, &item) {
+        if packet.is_full {
             return packet;
         }
         let packet = put_item(&mut self.outbox, &item, out, packet);
@@ -172,15 +161,20 @@ impl Core {
         packet
     }
 
-    /// While the connection's credit is used up, only bytes that were sent before may go (RFC 9000, section 4.1): streams with new ones are
-    /// passed over by their marks.
     #[inline(always)]
     pub(super) fn next_going(&self, from: u64) -> Option<StreamId> {
         debug_assert!(from <= 1 << 62);
+        self.outbox.next_marked(self.going_task(), from)
+    }
+
+    /// While the connection's credit is used up, only bytes that were sent before may go (RFC 9000, section 4.1): streams with new ones are
+    /// passed over by their marks.
+    #[inline(always)]
+    pub(super) fn going_task(&self) -> Task {
         if self.outbox.sent_sum() < self.limits.known_data {
-            return self.outbox.next_marked(Task::Bytes, from);
+            return Task::Bytes;
         }
-        self.outbox.next_marked(Task::Again, from)
+        Task::Again
     }
 
     #[inline(always)]

@@ -4,6 +4,7 @@
 use super::Core;
 use crate::proved::qs_conn::due::{Kind, Slot};
 use crate::proved::qs_calls::Fill;
+use crate::proved::qs_send::Item;
 use crate::proved::qs_wire::{Dir, StreamId};
 
 impl Core {
@@ -40,10 +41,10 @@ impl Core {
             return false;
         }
         if want.alone {
-            return self.has_bytes(want.first);
+            return self.goes(want.first);
         }
         if let Some(stream) = *last {
-            if self.has_bytes(stream) {
+            if self.goes(stream) {
                 return true;
             }
         }
@@ -51,16 +52,16 @@ impl Core {
     }
 
     fn has_item(&self) -> bool {
-        let found = self.has_own_slot(Slot::MaxData, false);
-        let found = self.has_own_slot(Slot::MaxStreams(Dir::Bidi), found);
-        let found = self.has_own_slot(Slot::MaxStreams(Dir::Uni), found);
+        let found = self.has_slot(Slot::MaxData, false);
+        let found = self.has_slot(Slot::MaxStreams(Dir::Bidi), found);
+        let found = self.has_slot(Slot::MaxStreams(Dir::Uni), found);
         let found = self.has_kind(Kind::ResetStream, found);
         let found = self.has_kind(Kind::StopSending, found);
         let found = self.has_kind(Kind::MaxStreamData, found);
-        let found = self.has_own_slot(Slot::DataBlocked, found);
+        let found = self.has_slot(Slot::DataBlocked, found);
         let found = self.has_kind(Kind::StreamDataBlocked, found);
-        let found = self.has_own_slot(Slot::StreamsBlocked(Dir::Bidi), found);
-        self.has_own_slot(Slot::StreamsBlocked(Dir::Uni), found)
+        let found = self.has_slot(Slot::StreamsBlocked(Dir::Bidi), found);
+        self.has_slot(Slot::StreamsBlocked(Dir::Uni), found)
     }
 
     // Mostly a look at how many marks there are shows that none is due.
@@ -86,51 +87,37 @@ impl Core {
         is_found
     }
 
-    // Mostly a look at two numbers shows that none is due.
     #[inline(always)]
-    fn has_own_slot(&self, slot: Slot, is_found: bool) -> bool {
-        if is_found {
-            return true;
-        }
-        if self.limits.has_told(&self.outbox, &self.own, &slot) {
-            return false;
-        }
-        self.has_slot(slot, false)
-    }
-
     fn has_slot(&self, slot: Slot, is_found: bool) -> bool {
         if is_found {
             return true;
         }
-        let Some(item) = self.limits.current(&self.outbox, &self.recvs, slot) else {
-            return false;
-        };
-        !self.own.is_told(&self.outbox, &item)
+        self.due_in(slot).is_some()
+    }
+
+    /// What of a slot is due: its current item, unless an outstanding packet tells it or an acknowledged one did (RFC 9000, sections 4.1, 4.6
+    /// and 13.3). The one place that says so.
+    #[inline(always)]
+    pub(super) fn due_in(&self, slot: Slot) -> Option<Item> {
+        if let Slot::DataBlocked = slot {
+            // Before streams are looked at.
+            let limit = self.limits.known_data;
+            if self.own.has(&Item::DataBlocked { limit }) {
+                return None;
+            }
+        }
+        let item = self.limits.current(&self.outbox, &self.recvs, slot)?;
+        if self.own.is_told(&self.outbox, &item) {
+            return None;
+        }
+        Some(item)
     }
 
     fn has_stream(&self) -> bool {
-        let mut from = 0;
-        while let Some(stream) = self.next_going(from) {
-            if self.has_bytes(stream) {
-                return true;
-            }
-            from = stream.value() + 1;
-        }
-        false
+        self.next_going(0).is_some()
     }
 
-    fn has_bytes(&self, stream: StreamId) -> bool {
-        // With room for any frame's head and one byte, only limits hold a chunk back.
-        const ENOUGH: usize = 25;
-        let Some(half) = self.outbox.half(stream) else {
-            return false;
-        };
-        let fresh = self.limits.known_data - self.outbox.sent_sum();
-        if fresh > 0 {
-            if half.has_unsent() {
-                return true;
-            }
-        }
-        self.outbox.next_chunk(stream, ENOUGH, fresh).is_some()
+    fn goes(&self, stream: StreamId) -> bool {
+        self.outbox.has(self.going_task(), stream)
     }
 }

@@ -1,6 +1,6 @@
 // Made from crates/qs_conn/src/outbox/telling.rt by rust/erase; not edited by hand.
-use super::Outbox;
-use super::halves::{half_of, marks, may_have, next_sought_of, next_with};
+use super::halves::{half_of, is_open, marks, may_have, next_sought_of, next_with};
+use super::{Outbox, halves};
 use crate::proved::qs_conn::marks::Marks;
 use crate::proved::qs_conn::places::least_stream;
 use crate::proved::qs_conn::send_marks::{Search, Task};
@@ -72,7 +72,20 @@ impl Outbox {
         if !may_have(&self.types, task) {
             return None;
         }
-        next_with(&self.types, task, from)
+        let Some(stream) = next_with(&self.types, task, from) else {
+            return None;
+        };
+        Some(stream)
+    }
+
+    /// Whether a stream's half has a task.
+    #[inline]
+    pub(crate) fn has(&self, task: Task, stream: StreamId) -> bool {
+        let _next = self.next;
+        if is_open(&self.types, stream) {
+            return halves::has(&self.types, stream, task);
+        }
+        false
     }
 
     #[inline]

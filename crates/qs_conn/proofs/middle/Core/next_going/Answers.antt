@@ -1,13 +1,15 @@
-use Rattle.std.proofs.Common.{arith}
-use Rattle.qs_conn.proofs.Hearing.{no_goes, no_goes_again}
+use Rattle.std.proofs.Common.{subst}
+use Rattle.std.specs.Option.{IfSome}
+use Rattle.qs_conn.specs.Tasks.{HasTaskAt, IsQuietAt}
+use Rattle.qs_conn.proofs.Hearing.{goes_found, goes_without}
 use Rattle.qs_conn.proofs.middle.Core.next_going.Goals as goal
 
-pub returns-then-sent_sum-self-clause-none : goal.returns-then-sent_sum-self-clause-none
-returns-then-sent_sum-self-clause-none c = λ n e le before.
+pub returns-clause-goes : goal.returns-clause-goes
+returns-clause-goes c = λ e.
     let self = c.args.self.now in
-    no_goes self.outbox n (c.next_marked.ensures.quiet n le before) self.limits self.recvs e
+    goes_found self.limits self.recvs self.outbox e c.next_marked.result (subst (λ k. IfSome c.next_marked.result (HasTaskAt k self.outbox)) c.going_task.ensures c.next_marked.ensures.has)
 
 pub returns-clause-none : goal.returns-clause-none
 returns-clause-none c = λ n e le before.
     let self = c.args.self.now in
-    no_goes_again self.outbox n (c.next_marked-2.ensures.quiet n le before) self.limits self.recvs e (omega (arith, c.if-sent_sum-self.false, c.sent_sum.ensures.value))
+    goes_without self.limits self.recvs self.outbox e n (subst (λ k. IsQuietAt k self.outbox n) c.going_task.ensures (c.next_marked.ensures.quiet n le before))
