@@ -105,20 +105,21 @@ static struct load of_active(size_t streams) {
 
 static struct run active(size_t streams) { return transfer(of_active(streams)); }
 
-/* The same without the application's calls: only packets made, received and acknowledged are timed. */
+/* The same without the application's calls: only packets made, received and acknowledged are timed, by the clock on the wall, whose
+ * reading is no system call. */
 static struct run carried(size_t streams) {
   struct pair *pair = pair_new(of_active(streams));
   uint64_t read = 0;
   double spent = 0;
   while (read < pair->load.total) {
     pair_write(pair);
-    double before = now();
+    double before = wall();
     pair_carry(pair);
-    spent += now() - before;
+    spent += wall() - before;
     read += pair_read(pair);
-    before = now();
+    before = wall();
     pair_answer(pair);
-    spent += now() - before;
+    spent += wall() - before;
   }
   struct run run = {spent, (double)pair->made};
   pair_free(pair);

@@ -7,7 +7,6 @@ use crate::scaling::hand_on;
 use crate::{Row, Run};
 use gotsavena::{Dir, Endpoint, Fill, Read, Role, Settings, StreamId, Token};
 use std::hint::black_box;
-use std::time::Duration;
 
 /// How the applications use the endpoints.
 #[derive(Clone, Copy, PartialEq, Eq)]
@@ -150,21 +149,19 @@ fn read_to_end(end: &mut Endpoint, stream: StreamId, len: usize) {
     assert_eq!(end.read(stream, &mut bytes), Ok(Read::End));
 }
 
-/// Of this many requests, the cost of each of the last thousand.
+/// The cost of each of a thousand requests, after this many.
 fn after(ended: u64, manner: Manner) -> Run {
     let mut requests = Requests::new(manner, 1 << 16);
-    let mut spent = Duration::ZERO;
-    let timed = 1_000;
-    for number in 0..ended + timed {
-        let took = time(|| requests.play());
-        if number >= ended {
-            spent += took;
+    let units = 1_000;
+    for _ in 0..ended {
+        requests.play();
+    }
+    let time = time(|| {
+        for _ in 0..units {
+            requests.play();
         }
-    }
-    Run {
-        time: spent,
-        units: timed,
-    }
+    });
+    Run { time, units }
 }
 
 pub fn rows() -> Vec<Row> {

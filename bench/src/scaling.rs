@@ -43,14 +43,21 @@ fn carried(streams: u64) -> Run {
     let (mut read, mut spent) = (0, Duration::ZERO);
     while read < load.total {
         pair.write();
-        spent += time(|| pair.carry());
+        spent += time_briefly(|| pair.carry());
         read += pair.read();
-        spent += time(|| pair.answer());
+        spent += time_briefly(|| pair.answer());
     }
     Run {
         time: spent,
         units: pair.made,
     }
+}
+
+// By the clock on the wall: reading that one is no system call, after which the processor is slower for a while.
+fn time_briefly(work: impl FnOnce()) -> Duration {
+    let before = Instant::now();
+    work();
+    before.elapsed()
 }
 
 // Only the two copies that `carried` makes: out of each send buffer and into each receive buffer in turn.
@@ -66,7 +73,7 @@ fn copied(streams: usize) -> Run {
     let (mut made, mut spent) = (0, Duration::ZERO);
     while made * EACH < 32 << 20 {
         let burst = (made..made + BURST).map(|number| (number % streams, number / streams));
-        spent += time(|| {
+        spent += time_briefly(|| {
             for ((stream, copies), payload) in burst.clone().zip(&mut payloads) {
                 let from = place(copies, 16 << 10);
                 payload.copy_from_slice(&buffers[stream][from..from + EACH]);

@@ -1,6 +1,5 @@
 // A request of one byte and a response of 1 KiB on a new stream each time, one after the other.
 use std::hint::black_box;
-use std::time::Duration;
 
 use bytes::Bytes;
 
@@ -171,18 +170,17 @@ fn hand_on(from: &mut End, to: &mut End) {
     }
 }
 
-// Of this many requests, the cost of each of the last thousand.
+// The cost of each of a thousand requests, after this many.
 pub fn request_after(ended: u64, manner: Manner) -> Run {
     let mut requests = Requests::new(manner);
-    let (mut spent, timed) = (Duration::ZERO, 1_000);
-    for number in 0..ended + timed {
-        let took = time(|| requests.play());
-        if number >= ended {
-            spent += took;
+    let units = 1_000;
+    for _ in 0..ended {
+        requests.play();
+    }
+    let time = time(|| {
+        for _ in 0..units {
+            requests.play();
         }
-    }
-    Run {
-        time: spent,
-        units: timed,
-    }
+    });
+    Run { time, units }
 }
