@@ -21,7 +21,7 @@ def tell(text):
 def build_ours(program, profile="release"):
     """Builds the package, and answers the path of this program of it."""
     subprocess.run(["cargo", "build", "--quiet", "--offline", "--profile", profile], cwd=HERE, check=True)
-    return HERE / "target" / ("debug" if profile == "dev" else profile) / program
+    return HERE / "target" / profile / program
 
 
 def build_driver(name, *words):
