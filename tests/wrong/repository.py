@@ -79,7 +79,7 @@ class Repository:
         return pathlib.Path(self.room.name) / crate.name / crate.rlib.name
 
     def check(self, crate):
-        """The words of a check of the crate in the folder in which it is called."""
+        """The words of a check by one job of the crate in the folder in which it is called."""
         root = "main" if (crate.folder / "src/main.rt").exists() else "lib"
         words = [self.kit / "bin/rattle", "check", "--crate-name", crate.name, f"src/{root}.rt", "--jobs", "1"]
         words += ["--extern", f"std={self.kit}/rlibs/std.rlib", "-L", f"dependency={self.kit}/rlibs"]
@@ -89,7 +89,7 @@ class Repository:
             words += ["-L", f"dependency={self.library(it).parent}"]
         words += ["--crate-type", "staticlib"] * ("staticlib" in crate.kind)
         words += ["--antt-project", self.kit / "rattle/logic/antt-project.json", "--logic-built", self.kit / "logic_built"]
-        return [*map(str, words), "--links", f"{crate.name}=", "--allow-holes", "--short-goals"]
+        return [*map(str, words), "--links", f"{crate.name}="]
 
     def place(self, crate, edit):
         """Where the verdict on an edit is kept: its name is the sum of all that it stands on."""
