@@ -250,6 +250,46 @@ fn within_the_bound(what: &str, count: &Count, events: &[&str], played: usize) {
     assert!(plain.len() <= bound, "{what}: {} events", plain.len());
 }
 
+/// The turns of a round, as docs/QSTREAM.md tells them. A turn in which nothing is lost or read has no line; one that makes always has.
+const ROUND: [&str; 6] = [
+    "A loses", "A makes", "B loses", "B makes", "A reads", "B reads",
+];
+
+/// Whose turn a line belongs to.
+fn turn_of(line: &str) -> usize {
+    let mut words = line.split(' ');
+    let (Some(what), Some(side)) = (words.next(), words.next()) else {
+        panic!("no event: {line}");
+    };
+    let does = match what {
+        "lose" => "loses",
+        "make" | "deliver" => "makes",
+        "read" => "reads",
+        _ => panic!("no event of a plain round: {line}"),
+    };
+    let turn = ROUND
+        .iter()
+        .position(|turn| *turn == format!("{side} {does}"));
+    turn.expect("A or B")
+}
+
+/// The plain events go through the turns of a round one after the other, and leave out none that makes.
+fn plays_rounds(what: &str, plain: &[&str]) {
+    let mut at = 0;
+    for line in plain {
+        let turn = turn_of(line);
+        while at != turn {
+            let next = (at + 1) % ROUND.len();
+            assert!(
+                next == turn || !ROUND[next].ends_with("makes"),
+                "{what}: {line} comes before {}",
+                ROUND[next]
+            );
+            at = next;
+        }
+    }
+}
+
 /// The script plays as without plain rounds, and they lead it to rest. It answers how many directions arrived whole.
 fn comes_to_rest(folder: &Path, what: &str, script: &str) -> usize {
     fs::write(folder.join("script"), script).expect("a file");
@@ -268,6 +308,7 @@ fn comes_to_rest(folder: &Path, what: &str, script: &str) -> usize {
     let (events, report) = drained.split_at(events.count());
     let count = Count::of(events);
     within_the_bound(what, &count, events, played);
+    plays_rounds(what, &events[played..]);
     nothing_is_left(what, &count, report);
     arrived(what, &count)
 }
@@ -276,6 +317,28 @@ fn a_folder(name: &str) -> PathBuf {
     let folder = std::env::temp_dir().join(format!("qstream-{name}-{}", std::process::id()));
     fs::create_dir_all(&folder).expect("a folder");
     folder
+}
+
+#[test]
+fn the_page_tells_the_round() {
+    let page = Path::new(env!("CARGO_MANIFEST_DIR")).join("../../docs/QSTREAM.md");
+    let page = fs::read_to_string(page).expect("the page");
+    assert!(page.contains(&ROUND.join(", ")));
+}
+
+/// Both have lost something and have something to read.
+#[test]
+fn every_turn_of_a_round_is_played() {
+    let folder = a_folder("round");
+    let script = "open A bidi\nwrite A 0 ab\nmake A 1200\ndeliver A 0\nwrite B 0 cd\nmake B 1200\nwrite A 0 ef\nmake A 1200\n";
+    comes_to_rest(&folder, "a round", script);
+    let drained = said(&folder, &["play", "script", "--drain"]);
+    let events = drained.lines().take_while(|line| line.contains(" -> "));
+    let plain: Vec<&str> = events.skip(script.lines().count()).collect();
+    let mut turns: Vec<usize> = plain.iter().map(|line| turn_of(line)).collect();
+    turns.dedup();
+    assert_eq!(turns[..ROUND.len()], [0, 1, 2, 3, 4, 5]);
+    fs::remove_dir_all(&folder).expect("the folder");
 }
 
 #[test]
