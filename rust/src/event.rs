@@ -43,8 +43,29 @@ pub enum Event {
     /// of packets.
     DataBlocked,
     /// The peer said that the stream's limit blocks it (sections 4.1 and 19.13): see
-    /// [`set_stream_window`](crate::Endpoint::set_stream_window). Not if the stream's length is known, since then no limit moves; if it was
-    /// stopped, it is.
+    /// [`set_stream_window`](crate::Endpoint::set_stream_window). What counts is the moment at which the frame took effect: the limit stood
+    /// there, and the stream's length wasn't known. The event comes though the limit rose since, or the length became known, after which
+    /// no limit moves. A stream that was stopped has it, too.
+    ///
+    /// ```
+    /// use gotsavena::{Endpoint, Event, Frame, Role, Settings, StreamId, Taken};
+    ///
+    /// let settings = Settings::default().stream_windows(1000);
+    /// let mut server = Endpoint::new(Role::Server, settings, settings.limits())?;
+    /// assert_eq!(server.next_event()?, None);
+    /// let stream = StreamId::new(0).expect("below 2^62");
+    /// let blocked = Frame::StreamDataBlocked { stream, limit: 1000 };
+    /// assert_eq!(server.take_frame(&blocked)?, Taken::Took);
+    /// // Later the stream ends.
+    /// let ends = Frame::Stream { stream, offset: 1000, fin: true, bytes: &[] };
+    /// assert_eq!(server.take_frame(&ends)?, Taken::Took);
+    /// assert_eq!(server.next_event()?, Some(Event::Opened(stream)));
+    /// assert_eq!(server.next_event()?, Some(Event::StreamDataBlocked(stream)));
+    /// // From now on the frame says nothing new.
+    /// assert_eq!(server.take_frame(&blocked)?, Taken::Unchanged);
+    /// assert_eq!(server.next_event()?, None);
+    /// # Ok::<(), Box<dyn std::error::Error>>(())
+    /// ```
     StreamDataBlocked(StreamId),
     /// The peer said that the count of that direction blocks it (sections 4.6 and 19.14): see [`set_grant`](crate::Endpoint::set_grant).
     StreamsBlocked(Dir),

@@ -105,6 +105,54 @@ fn what_was_noted_is_told_though_the_limit_rose() {
     assert_eq!(news(&mut end), all_three());
 }
 
+/// The frame that ends the stream at its first limit.
+fn ends() -> Frame<'static> {
+    Frame::Stream {
+        stream: stream(),
+        offset: 400,
+        fin: true,
+        bytes: &[],
+    }
+}
+
+#[test]
+fn a_stream_that_was_noted_is_told_though_its_limit_rose_or_its_length_is_known() {
+    let of_stream = all_three()[1];
+    for is_wider in [true, false] {
+        let mut end = asked();
+        let blocked = stands(STREAM).1;
+        assert_eq!(end.take_frame(&blocked), Ok(Taken::Unchanged));
+        if is_wider {
+            end.set_stream_window(stream(), 5000).expect("in range");
+        } else {
+            assert_eq!(end.take_frame(&ends()), Ok(Taken::Took));
+        }
+        assert!(news(&mut end).contains(&of_stream));
+        // The frame comes again, when the limit isn't 400 any more, or no limit matters.
+        assert_eq!(end.take_frame(&blocked), Ok(Taken::Unchanged));
+        assert!(!news(&mut end).contains(&of_stream));
+    }
+}
+
+#[test]
+fn a_mark_without_memory_is_left_out_once_the_length_is_known() {
+    // The last allocation that the frame asks for is that of the mark.
+    let is_asked = |which: &u64| {
+        let mut end = asked();
+        refused(*which, || end.take_frame(&stands(STREAM).1)).1
+    };
+    let last = (0..).take_while(is_asked).count() as u64 - 1;
+    for is_known in [false, true] {
+        let mut end = asked();
+        let (taken, _) = refused(last, || end.take_frame(&stands(STREAM).1));
+        assert_eq!(taken, Ok(Taken::Unchanged));
+        if is_known {
+            assert_eq!(end.take_frame(&ends()), Ok(Taken::Took));
+        }
+        assert_eq!(news(&mut end).contains(&all_three()[1]), !is_known);
+    }
+}
+
 #[test]
 fn each_stands_for_itself() {
     let mut end = asked();

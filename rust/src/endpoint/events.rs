@@ -12,9 +12,10 @@ impl Endpoint {
     ///
     /// Events come in the order in which [`Event`] lists the kinds (`Finished` and `ResetAcked` are one), and of a kind those of lower
     /// streams first, or of bidirectional ones. A condition that no longer holds isn't reported: bytes that were read meanwhile, or a
-    /// stream that was reset before it could be written to again. A closed endpoint reports no [`Writable`](Event::Writable), no
-    /// [`Available`](Event::Available) and no blocked frame, since none could be acted on. It reports [`Readable`](Event::Readable) only
-    /// with [`reads_when_closed`](crate::Tuning::reads_when_closed), and all others.
+    /// stream that was reset before it could be written to again. A blocked frame that was noted is reported though its limit rose
+    /// meanwhile. A closed endpoint reports no [`Writable`](Event::Writable), no [`Available`](Event::Available) and no blocked frame,
+    /// since none could be acted on. It reports [`Readable`](Event::Readable) only with
+    /// [`reads_when_closed`](crate::Tuning::reads_when_closed), and all others.
     ///
     /// Call it after each call that received something, and after reads, writes, resets and changed settings, until it returns `None`. An
     /// application may also begin late, or never: all conditions that still hold are reported then.
@@ -78,9 +79,11 @@ impl Endpoint {
     /// [`take_frames`](Endpoint::take_frames), which read nothing twice, note them once an event was asked for, and before that too if this
     /// is chosen.
     ///
-    /// A limit that rose since the peer met it isn't reported, nor one that the same packet moved: the peer isn't blocked any more. A note
-    /// is reported once, and again only if the peer says it in a later packet. Memory for notes is taken before the payload takes effect.
-    /// If it is refused, `receive` returns `NoMemory`, nothing changed, and the same payload may come again.
+    /// A limit that rose before the frame was processed isn't noted, nor one that the same packet moved: the peer isn't blocked any more.
+    /// What was noted is reported once, even if the limit rises meanwhile or the stream's length becomes known, and again only if the peer
+    /// says it in a later packet. Memory for notes is taken before the payload takes effect. If it is refused, `receive` returns
+    /// `NoMemory`, nothing changed, and the same payload may come again. A note may then still wait for the memory of its mark, until an
+    /// event is asked for: if the stream's length becomes known first, it is left out.
     ///
     /// ```
     /// use gotsavena::{Dir, Endpoint, Event, Role, Settings};

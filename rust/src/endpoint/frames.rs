@@ -117,7 +117,8 @@ impl Endpoint {
         self.take_heard(&all)
     }
 
-    // Blocked frames are noted after they took effect, so the room for the notes is taken before: none is lost for want of memory.
+    // Blocked frames are noted after they took effect, so the room for the notes is taken before. A note whose mark finds no memory waits
+    // there, and is left out only if the stream's length becomes known before it is marked.
     fn take_heard(&mut self, frames: &[wire::Frame<'_>]) -> Result<Taken, TakeFault> {
         let blocked = || frames.iter().filter(|frame| says_blocked(frame));
         if !self.hearing.is_heard() || blocked().next().is_none() {
