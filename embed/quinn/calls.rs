@@ -568,6 +568,56 @@ fn news() {
     script.say(text);
 }
 
+// Each with a byte, and 1,000 bytes of window for a hundred of them.
+const MANY: usize = 20_000;
+
+fn many(key: &str) -> Script {
+    scene(key, |config| {
+        config.max_concurrent_uni_streams((MANY as u32).into());
+        config.max_concurrent_bidi_streams((MANY as u32).into());
+        config.receive_window((MANY as u32 * 10).into());
+    })
+}
+
+#[test]
+fn many_streams() {
+    let mut script = many("many-streams");
+    for _ in 0..MANY {
+        let id = script.conn(0).streams().open(Dir::Uni).unwrap();
+        assert_eq!(script.conn(0).send_stream(id).write(b"x"), Ok(1));
+    }
+    script.rest(0);
+    let accepted: Vec<_> =
+        std::iter::from_fn(|| script.conn(1).streams().accept(Dir::Uni)).collect();
+    let told: BTreeSet<_> = accepted.iter().map(|&id| script.chunks(id, true)).collect();
+    let is_closed = script.conn(1).is_closed();
+    script.say(format!("{} come, {:?}, closed {}", accepted.len(), told, is_closed));
+}
+
+#[test]
+fn many_answers() {
+    let mut script = many("many-answers");
+    let asked: Vec<_> =
+        (0..MANY).map(|_| script.conn(0).streams().open(Dir::Bi).unwrap()).collect();
+    for &id in &asked {
+        assert_eq!(script.conn(0).send_stream(id).write(b"x"), Ok(1));
+        script.conn(0).send_stream(id).finish().unwrap();
+    }
+    script.rest(0);
+    while let Some(id) = script.conn(1).streams().accept(Dir::Bi) {
+        let _ = script.chunks(id, true);
+        assert_eq!(script.conn(1).send_stream(id).write(&bytes_of(id, 0, 1)), Ok(1));
+        script.conn(1).send_stream(id).finish().unwrap();
+    }
+    script.rest(0);
+    // None is read, but those at the edges.
+    for id in [asked[0], asked[MANY - 1]] {
+        script.read(0, id, 10);
+    }
+    let is_closed = script.conn(0).is_closed();
+    script.say(format!("closed {}", is_closed));
+}
+
 // After a Retry, or a server with other protocols that refuses 0-RTT: then nothing that was sent before counts.
 fn zero_rtt(key: &str, is_refused: bool) {
     let mut crypto = server_crypto();

@@ -6,16 +6,23 @@ use super::*;
 use crate::transport_parameters::TransportParameters;
 use crate::{frame, Side, TransportError, TransportErrorCode};
 
+const COUNT: u32 = 128;
+
 fn make(side: Side) -> StreamsState {
-    let count = VarInt::from_u32(128);
-    let window = VarInt::from_u32(1 << 20);
-    let mut made = StreamsState::new(side, count, count, 1 << 20, window, window);
+    make_with(side, [COUNT; 2], VarInt::from_u32(1 << 20))
+}
+
+// Both ends have so many streams of each kind, the unidirectional ones first, and this window.
+fn make_with(side: Side, counts: [u32; 2], window: VarInt) -> StreamsState {
+    let [uni, bidi] = counts.map(VarInt::from_u32);
+    let of_stream = VarInt::from_u32(1 << 20).max(window.min(VarInt::from_u32(1 << 26)));
+    let mut made = StreamsState::new(side, uni, bidi, 1 << 20, window, of_stream);
     let params = TransportParameters {
         initial_max_data: window,
-        initial_max_stream_data_uni: window,
-        initial_max_stream_data_bidi_remote: window,
-        initial_max_streams_uni: count,
-        initial_max_streams_bidi: count,
+        initial_max_stream_data_uni: of_stream,
+        initial_max_stream_data_bidi_remote: of_stream,
+        initial_max_streams_uni: uni,
+        initial_max_streams_bidi: bidi,
         ..TransportParameters::default()
     };
     made.set_params(&params);
@@ -35,8 +42,17 @@ fn packet(end: &mut StreamsState) -> Carried {
 }
 
 fn take(end: &mut StreamsState, id: StreamId, offset: u64) -> Result<(), TransportError> {
-    let data = Bytes::from_static(b"x");
-    end.received(frame::Stream { id, offset, fin: false, data }, 1).map(drop)
+    take_bytes(end, id, offset, b"x")
+}
+
+fn take_bytes(
+    end: &mut StreamsState,
+    id: StreamId,
+    offset: u64,
+    bytes: &'static [u8],
+) -> Result<(), TransportError> {
+    let data = Bytes::from_static(bytes);
+    end.received(frame::Stream { id, offset, fin: false, data }, bytes.len()).map(drop)
 }
 
 fn refused<T>(call: impl FnOnce() -> T) -> T {
@@ -68,19 +84,74 @@ fn a_stop_past_the_count_closes() {
     assert_eq!(code(&mut server), Some(TransportErrorCode::STREAM_LIMIT_ERROR));
 }
 
+// How many pieces of a stopped stream an end takes, up to four times as many as it has to.
+fn pieces_until_closed(server: &mut StreamsState, enough: u64) -> Option<u64> {
+    let id = StreamId::new(Side::Client, Dir::Uni, 0);
+    assert_eq!(take(server, id, 0), Ok(()));
+    RecvStream { id, state: server, pending: &mut Retransmits::default() }.stop(VarInt(7)).unwrap();
+    let fault = (1..4 * enough).find_map(|piece| Some((piece, take(server, id, piece * 2).err()?)));
+    fault.map(|(piece, fault)| {
+        assert_eq!(fault.code, TransportErrorCode::PROTOCOL_VIOLATION);
+        piece
+    })
+}
+
 #[test]
 fn many_pieces_of_a_stopped_stream_close() {
+    let halves = 4 * u64::from(COUNT);
+    let enough = 16_384 + halves + (1 << 20) / 1_000;
+    assert_eq!(pieces_until_closed(&mut make(Side::Server), enough), Some(enough));
+    // Quinn's own default has no end.
+    let enough = 16_384 + halves + (1 << 18);
+    let mut server = make_with(Side::Server, [COUNT; 2], VarInt::MAX);
+    assert_eq!(pieces_until_closed(&mut server, enough), Some(enough));
+}
+
+#[test]
+fn a_bound_on_pieces_stays_where_window_and_count_fall() {
     let mut server = make(Side::Server);
-    let id = StreamId::new(Side::Client, Dir::Uni, 0);
-    assert_eq!(take(&mut server, id, 0), Ok(()));
-    RecvStream { id, state: &mut server, pending: &mut Retransmits::default() }
-        .stop(VarInt(7))
-        .unwrap();
-    for piece in 1..16_384 {
-        assert_eq!(take(&mut server, id, piece * 2), Ok(()));
+    server.set_receive_window(VarInt(1));
+    server.set_max_concurrent(Dir::Uni, VarInt(1));
+    server.set_max_concurrent(Dir::Bi, VarInt(0));
+    let enough = 16_384 + 4 * u64::from(COUNT) + (1 << 20) / 1_000;
+    assert_eq!(pieces_until_closed(&mut server, enough), Some(enough));
+}
+
+#[test]
+fn pieces_of_many_open_streams_do_not_close() {
+    let mut server = make_with(Side::Server, [20_000, 0], VarInt::from_u32(1 << 20));
+    for offset in [0, 2] {
+        for index in 0..20_000 {
+            let id = StreamId::new(Side::Client, Dir::Uni, index);
+            assert_eq!(take(&mut server, id, offset), Ok(()), "{} of {}", offset, id);
+        }
     }
-    let fault = take(&mut server, id, 16_384 * 2).unwrap_err();
-    assert_eq!(fault.code, TransportErrorCode::PROTOCOL_VIOLATION);
+}
+
+#[test]
+fn answers_that_are_not_read_do_not_close() {
+    let mut client = make_with(Side::Client, [0, 20_000], VarInt::from_u32(1 << 20));
+    // (the server opens none)
+    client.set_max_concurrent(Dir::Bi, VarInt(0));
+    let conn_state = &crate::connection::State::Established;
+    for index in 0..20_000 {
+        let id = Streams { state: &mut client, conn_state }.open(Dir::Bi).unwrap();
+        assert_eq!(id, StreamId::new(Side::Client, Dir::Bi, index));
+        let data = Bytes::from_static(b"x");
+        let answer = frame::Stream { id, offset: 0, fin: true, data };
+        assert!(client.received(answer, 1).is_ok(), "{}", id);
+    }
+}
+
+#[test]
+fn every_second_packet_of_a_wide_window_does_not_close() {
+    const PACKET: u64 = 1_200;
+    let mut server = make_with(Side::Server, [COUNT; 2], VarInt::from_u32(1 << 26));
+    let id = StreamId::new(Side::Client, Dir::Uni, 0);
+    for packet in (0..(1 << 26) / PACKET).step_by(2) {
+        let taken = take_bytes(&mut server, id, packet * PACKET, &[7; PACKET as usize]);
+        assert_eq!(taken, Ok(()), "packet {}", packet);
+    }
 }
 
 #[test]

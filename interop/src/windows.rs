@@ -8,11 +8,18 @@ use gotsavena::{Dir, Endpoint, PeerLimits, Role, StreamId};
 use std::collections::BTreeMap;
 use std::time::{Duration, Instant};
 
+/// The runs of received bytes that a connection may have beside what its streams and its window account for.
+const FEW_RUNS: u64 = 1 << 14;
+/// The most that a window accounts for.
+const MOST_OF_WINDOW: u64 = 1 << 18;
+
 pub struct Windows {
     role: Role,
     first: PeerLimits,
     most: u64,
     conn: Window,
+    /// How many bidirectional streams of this end have a lower number than one on which bytes came, or that one's.
+    own_bidi: u64,
     streams: BTreeMap<StreamId, Window>,
     came: Vec<StreamId>,
 }
@@ -53,13 +60,25 @@ impl Windows {
             first,
             most,
             conn: Window::new(first.max_data, now),
+            own_bidi: 0,
             streams: BTreeMap::new(),
             came: Vec::new(),
         }
     }
 
+    /// Into how many runs received bytes may fall: two for each stream that may be open, as each that has bytes counts, and one for each
+    /// packet that the connection's window may have under way. A run takes at most 32 bytes, and on streams that were stopped no window
+    /// bounds them; so a peer with more is closed.
+    pub fn most_runs(&self) -> u64 {
+        let halves = self.first.streams_bidi + self.first.streams_uni + self.own_bidi;
+        FEW_RUNS + 2 * halves + MOST_OF_WINDOW.min(self.conn.size / 1_000)
+    }
+
     /// Something came of a stream. The next look is at such streams alone: one on which nothing comes costs nothing.
     pub fn came(&mut self, stream: StreamId, now: Instant) {
+        if stream.dir() == Dir::Bidi && stream.initiator() == self.role {
+            self.own_bidi = self.own_bidi.max(stream.index() + 1);
+        }
         let first = self.first(stream);
         if first < self.most && self.came.last() != Some(&stream) {
             self.came.push(stream);

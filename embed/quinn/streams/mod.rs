@@ -33,6 +33,9 @@ impl Streams<'_> {
         match end.open(theirs(dir)) {
             Ok(stream) => {
                 self.state.send_streams += 1;
+                if dir == Dir::Bi {
+                    self.state.opened_bidi();
+                }
                 Some(quinns(stream))
             }
             Err(_) => {

@@ -24,8 +24,11 @@ pub const MOST_DATA: u64 = 1 << 40;
 pub const MOST_STREAM_DATA: u64 = 1 << 30;
 pub const MOST_STREAMS: u64 = 1 << 17;
 const MOST_IN_ALL: u64 = 1 << 21;
-// More pieces with gaps between them close the connection: on a stream that was stopped no window bounds them.
-const MOST_PIECES: u64 = 1 << 14;
+// The pieces of received bytes, with gaps between them, that a connection may have beside what its streams and its window account for.
+// More close it: on a stream that was stopped no window bounds them.
+const FEW_PIECES: u64 = 1 << 14;
+// The most that a window accounts for.
+const MOST_OF_WINDOW: u64 = 1 << 18;
 
 /// The streams of a connection.
 pub struct StreamsState {
@@ -50,6 +53,9 @@ pub struct StreamsState {
     space: Vec<u8>,
     // Counted here, since no call of the layer does.
     pub(super) send_streams: usize,
+    own_bidi: u64,
+    // It never falls: what was granted may still come.
+    most_pieces: u64,
     // The first fault that quinn didn't ask for yet: it returns none from these calls.
     fault: Option<TransportError>,
 }
@@ -97,7 +103,7 @@ impl StreamsState {
             .send_buffer(send_window.clamp(1, MOST_STREAM_DATA) as usize)
             .bidi_streams(max_remote_bi.0.min(MOST_STREAMS), MOST_IN_ALL)
             .uni_streams(max_remote_uni.0.min(MOST_STREAMS), MOST_IN_ALL);
-        Self {
+        let mut made = Self {
             end: new_end(side, settings, send_window, 0),
             side,
             settings,
@@ -113,8 +119,12 @@ impl StreamsState {
             carried: Carried::default(),
             space: Vec::new(),
             send_streams: 0,
+            own_bidi: 0,
+            most_pieces: 0,
             fault: None,
-        }
+        };
+        made.allow_pieces();
+        made
     }
 
     // Quinn doesn't ask for faults everywhere. The next packet received returns them, and quinn closes.
@@ -145,11 +155,24 @@ impl StreamsState {
 
     // Limits of this endpoint
 
+    // Two for each receiving half, as each that has bytes counts, and one for each packet that a window may have under way.
+    fn allow_pieces(&mut self) {
+        let halves = self.grants[0] + self.grants[1] + self.own_bidi;
+        let pieces = FEW_PIECES + 2 * halves + (self.window / 1_000).min(MOST_OF_WINDOW);
+        self.most_pieces = self.most_pieces.max(pieces);
+    }
+
+    pub(super) fn opened_bidi(&mut self) {
+        self.own_bidi += 1;
+        self.allow_pieces();
+    }
+
     pub fn set_max_concurrent(&mut self, dir: Dir, count: VarInt) {
         // (it is in range; a closed endpoint grants nothing more)
         let grant = count.0.min(MOST_STREAMS);
         self.grants[dir as usize] = grant;
         let _ = self.end.set_grant(theirs(dir), grant);
+        self.allow_pieces();
     }
 
     /// Whether the window grew.
@@ -157,6 +180,7 @@ impl StreamsState {
         let before = self.window;
         self.window = receive_window.0.clamp(1, MOST_DATA);
         let _ = self.end.set_conn_window(self.window);
+        self.allow_pieces();
         self.window > before
     }
 
@@ -172,6 +196,7 @@ impl StreamsState {
         self.priorities.clear();
         self.waiting.clear();
         self.send_streams = 0;
+        self.own_bidi = 0;
     }
 
     /// After a Retry all that was sent goes out again, since the server kept none of it.
@@ -279,7 +304,7 @@ impl StreamsState {
             self.waiting.clear();
         }
         match self.end.take_frame(&frame) {
-            Ok(_) if self.end.noted() > MOST_PIECES => {
+            Ok(_) if self.end.noted() > self.most_pieces => {
                 Err(TransportError::PROTOCOL_VIOLATION("too many pieces with gaps between them"))
             }
             Ok(_) => Ok(()),

@@ -13,9 +13,6 @@ use std::time::Instant;
 
 const TOKEN_LEN: usize = 16;
 
-/// One run takes at most 32 bytes, and on streams that were stopped no window bounds them; so a peer with more is closed.
-const MOST_RUNS: u64 = 1 << 14;
-
 impl Connection {
     /// Takes a datagram in. It is opened in place. Answers whether the peer is where it came from: a packet of it is the newest, and does
     /// more than to look whether the address is there (RFC 9000, section 9.3).
@@ -140,7 +137,7 @@ impl Connection {
         let Some(end) = &mut self.end else {
             return Ok(());
         };
-        if end.noted() > MOST_RUNS {
+        if end.noted() > self.windows.most_runs() {
             return Err(Fault::new(
                 PROTOCOL_VIOLATION,
                 0x08,

@@ -2,11 +2,11 @@
 
 use super::{ClientSetup, Config, Connection};
 use crate::certificate::Identity;
-use crate::crypto::push_frame;
 use crate::fault::{Close, Fault, Outcome, PROTOCOL_VIOLATION};
 use crate::packet::{VERSION_1, read_packet};
 use crate::tls::{client_config, server_config};
-use gotsavena::{Dir, Frame, Read, Settings, StreamId, Tuning};
+use crate::windows::Windows;
+use gotsavena::{Dir, Frame, Read, Role, Settings, StreamId, Tuning, put};
 use std::collections::VecDeque;
 use std::time::{Duration, Instant};
 
@@ -37,6 +37,17 @@ impl World {
             idle,
         };
         World::of(config, lost)
+    }
+
+    // Settings that stay, and no loss.
+    fn with(settings: Settings) -> World {
+        let config = Config {
+            settings,
+            tuning: Tuning::default(),
+            most_window: 0,
+            idle: Duration::from_secs(30),
+        };
+        World::of(config, 0)
     }
 
     fn of(config: Config, lost: u64) -> World {
@@ -316,9 +327,35 @@ fn a_mebibyte_comes_soon_where_5_of_100_datagrams_are_lost() {
     assert!(times[4].as_secs_f64() < 1.1 * ideal, "{times:?}");
 }
 
-// What a server says to frames of one byte each on a stream that it stopped, at every so many offsets.
-fn send_on(step: u64, count: u64) -> Result<(), Fault> {
-    let mut world = World::new(0, Duration::from_secs(30));
+// A packet with bytes of a stream comes, behind all that came before.
+fn comes(
+    end: &mut Connection,
+    stream: StreamId,
+    offset: u64,
+    bytes: &[u8],
+    now: Instant,
+) -> Result<(), Fault> {
+    let frame = Frame::Stream {
+        stream,
+        offset,
+        fin: false,
+        bytes,
+    };
+    let mut payload = [0; 1_300];
+    let len = put(&frame, &mut payload).unwrap();
+    end.take_data(end.expected, &payload[..len], now)
+}
+
+fn small() -> Settings {
+    Settings::small()
+        .conn_window(1 << 20)
+        .stream_windows(1 << 18)
+}
+
+// How many packets come in one after the other until one closes, of one byte each on a stream that the server stopped, at every so many
+// offsets.
+fn send_on(settings: Settings, step: u64, count: u64) -> Option<u64> {
+    let mut world = World::with(settings);
     world.connect();
     let stream = world.end(0).end().unwrap().open(Dir::Bidi).unwrap();
     world.end(0).end().unwrap().write(stream, b"begun").unwrap();
@@ -327,26 +364,111 @@ fn send_on(step: u64, count: u64) -> Result<(), Fault> {
     let server = world.end(1);
     server.end().unwrap().stop(stream, 7).unwrap();
     while server.send(&mut out, now) {}
-    for place in 0..count {
-        let mut payload = Vec::new();
-        let offset = 5 + step * place;
-        let frame = Frame::Stream {
-            stream,
-            offset,
-            fin: false,
-            bytes: b"x",
-        };
-        push_frame(&mut payload, &frame);
-        server.take_data(1_000_000 + place, &payload, now)?;
-    }
-    Ok(())
+    (0..count).find(|place| {
+        let taken = comes(server, stream, 5 + step * place, b"x", now);
+        taken.is_err_and(|fault| {
+            assert_eq!(fault.code, PROTOCOL_VIOLATION);
+            true
+        })
+    })
 }
 
 #[test]
 fn gaps_on_a_stream_that_was_stopped_close_in_the_end() {
-    assert_eq!(send_on(1, 40_000), Ok(()));
-    assert_eq!(send_on(2, 16_000), Ok(()));
-    assert_eq!(send_on(2, 40_000).unwrap_err().code, PROTOCOL_VIOLATION);
+    // A window of 1 MiB, and eight streams of each kind.
+    let enough = 16_384 + 2 * 16 + 1_048;
+    assert_eq!(send_on(small(), 1, 4 * enough), None);
+    // The bytes before make the first run one with the first packet's; and the packet behind the first too many is refused.
+    assert_eq!(send_on(small(), 2, 4 * enough), Some(enough + 1));
+    // Of a wide window no more counts than so much.
+    let enough = 16_384 + 2 * 16 + (1 << 18);
+    let wide = small().conn_window(1 << 40);
+    assert_eq!(send_on(wide, 2, 4 * enough), Some(enough + 1));
+}
+
+const MANY: u64 = 20_000;
+
+fn many_streams() -> Settings {
+    small().uni_streams(MANY, MANY).bidi_streams(0, 0)
+}
+
+#[test]
+fn streams_that_are_open_do_not_close() {
+    let mut world = World::with(many_streams());
+    world.connect();
+    let client = world.end(0).end().unwrap();
+    for _ in 0..MANY {
+        let stream = client.open(Dir::Uni).unwrap();
+        assert_eq!(client.write(stream, b"x"), Ok(1));
+    }
+    let (mut count, mut bytes) = (0, [0; 2]);
+    while count < MANY {
+        assert!(world.step());
+        let server = world.end(1).end().expect("it stays open");
+        while let Some(stream) = server.accept() {
+            assert_eq!(server.read(stream, &mut bytes), Ok(Read::Bytes(1)));
+            count += 1;
+        }
+    }
+    assert_eq!(world.end(1).end().unwrap().noted(), MANY);
+}
+
+#[test]
+fn gaps_of_many_open_streams_do_not_close() {
+    let mut world = World::with(many_streams());
+    world.connect();
+    let now = world.now;
+    for offset in [0, 2] {
+        for index in 0..MANY {
+            let stream = StreamId::from_parts(Role::Client, Dir::Uni, index).unwrap();
+            assert_eq!(comes(world.end(1), stream, offset, b"x", now), Ok(()));
+        }
+    }
+    assert_eq!(world.end(1).end().unwrap().noted(), 2 * MANY);
+}
+
+#[test]
+fn answers_that_are_not_read_do_not_close() {
+    let mut world = World::with(small().uni_streams(0, 0).bidi_streams(MANY, MANY));
+    // The server grants many streams, and the client none.
+    world.end(0).windows = Windows::new(Role::Client, small().streams(0, 0).limits(), 0, world.now);
+    world.connect();
+    let client = world.end(0).end().unwrap();
+    for _ in 0..MANY {
+        let stream = client.open(Dir::Bidi).unwrap();
+        assert_eq!(client.write(stream, b"x"), Ok(1));
+        client.finish(stream).unwrap();
+    }
+    let (mut count, mut bytes) = (0, [0; 2]);
+    while count < MANY || world.end(0).end().expect("it stays open").noted() < MANY {
+        assert!(world.step());
+        let server = world.end(1).end().expect("it stays open");
+        while let Some(stream) = server.accept() {
+            assert_eq!(server.read(stream, &mut bytes), Ok(Read::Bytes(1)));
+            assert_eq!(server.write(stream, b"y"), Ok(1));
+            server.finish(stream).unwrap();
+            count += 1;
+        }
+    }
+    // The next packet would close.
+    let (now, first) = (world.now, StreamId::new(0).unwrap());
+    assert_eq!(comes(world.end(0), first, 0, b"y", now), Ok(()));
+}
+
+#[test]
+fn every_second_packet_of_a_wide_window_does_not_close() {
+    const WINDOW: u64 = 1 << 26;
+    let bytes = [7; 1_200];
+    let mut world = World::with(small().conn_window(WINDOW).stream_windows(WINDOW));
+    world.connect();
+    let (now, server) = (world.now, world.end(1));
+    let stream = StreamId::new(0).unwrap();
+    let packets = WINDOW / bytes.len() as u64;
+    for packet in (0..packets).step_by(2) {
+        let offset = packet * bytes.len() as u64;
+        assert_eq!(comes(server, stream, offset, &bytes, now), Ok(()));
+    }
+    assert_eq!(server.end().unwrap().noted(), packets.div_ceil(2));
 }
 
 // How long 8 MB take over a round trip of 100 ms, where windows of 64 KiB grow so far.

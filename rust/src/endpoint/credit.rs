@@ -244,7 +244,9 @@ impl Endpoint {
     /// and one more for each gap (RFC 9000, section 2.2). Constant time.
     ///
     /// Watch it: each run beyond two of a stream takes 16 to 32 bytes while the gap is there, and no setting bounds that for streams that
-    /// were stopped, since their peer gets its credit back. The transport closes a connection whose number gets too great.
+    /// were stopped, since their peer gets its credit back. The transport closes a connection whose number gets too great. An honest peer
+    /// stays below the sum of 16,384, of two for each receiving half that may be open (the streams that the peer may open at a time, and
+    /// own bidirectional ones), and of a thousandth of the connection's window.
     ///
     /// ```
     /// use gotsavena::{Endpoint, Frame, Role, Settings, StreamId};
