@@ -150,7 +150,8 @@ impl Pair {
                 let joined = self.came.map_or(Some(token), |came| came.and(token));
                 self.came = joined.or(self.came);
             } else {
-                self.reader
+                _ = self
+                    .reader
                     .receive(token.number, &payload[..len])
                     .expect("an honest packet");
             }
@@ -198,7 +199,8 @@ impl Pair {
                 self.reader.acked(filled.token).expect("it was given");
             }
         } else if let Ok(Some(made)) = self.reader.make_packet(&mut payload) {
-            self.sender
+            _ = self
+                .sender
                 .receive(made.number, &payload[..made.len])
                 .expect("an honest packet");
             if self.load.way == Way::Filled {
@@ -232,6 +234,6 @@ impl Pair {
 pub fn take(end: &mut Endpoint, payload: &[u8]) {
     for placed in frames(payload) {
         let frame = placed.expect("an honest packet").frame;
-        end.take_frame(&frame).expect("an honest packet");
+        _ = end.take_frame(&frame).expect("an honest packet");
     }
 }

@@ -67,7 +67,7 @@ impl Lossy {
                 continue;
             }
             let taken = self.reader.receive(*number, &payload[..*len]);
-            taken.expect("an honest packet");
+            _ = taken.expect("an honest packet");
             self.read();
             came += 1;
             if came % ACK_EACH == 0 {
@@ -122,7 +122,7 @@ impl Lossy {
         let mut payload = [0; ROOM];
         if let Ok(Some(made)) = self.reader.make_packet(&mut payload) {
             let taken = self.sender.receive(made.number, &payload[..made.len]);
-            taken.expect("an honest packet");
+            _ = taken.expect("an honest packet");
         }
     }
 }
@@ -188,7 +188,7 @@ pub fn fills(streams: u64) -> u64 {
     gotsavena_counted(&mut || {
         for _ in 0..units {
             let filled = end.fill(&mut payload, &Fill::all());
-            black_box(filled.expect("there is memory").expect("bytes are due"));
+            _ = black_box(filled.expect("there is memory").expect("bytes are due"));
         }
     });
     units

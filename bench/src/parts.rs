@@ -311,7 +311,8 @@ fn hostile() -> Run {
         .expect("the settings are in range");
     let time = time(|| {
         for (number, payload) in packets.iter().enumerate() {
-            end.receive(number as u64, payload)
+            _ = end
+                .receive(number as u64, payload)
                 .expect("within the credit");
         }
     });

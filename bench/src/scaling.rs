@@ -201,11 +201,11 @@ fn same_ack(packets: u64) -> Run {
         .expect("there is memory")
         .expect("an ACK is due");
     let ack = &payload[..ack.len];
-    pair.sender.receive(0, ack).expect("an honest packet");
+    _ = pair.sender.receive(0, ack).expect("an honest packet");
     let times = 2_000;
     let time = time(|| {
         for number in 1..=times {
-            pair.sender.receive(number, ack).expect("an honest packet");
+            _ = pair.sender.receive(number, ack).expect("an honest packet");
         }
     });
     Run { time, units: times }
@@ -215,7 +215,8 @@ fn same_ack(packets: u64) -> Run {
 pub fn hand_on(from: &mut Endpoint, to: &mut Endpoint) {
     let mut payload = [0; 1200];
     while let Ok(Some(made)) = from.make_packet(&mut payload) {
-        to.receive(made.number, &payload[..made.len])
+        _ = to
+            .receive(made.number, &payload[..made.len])
             .expect("an honest packet");
     }
 }

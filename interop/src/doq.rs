@@ -233,7 +233,7 @@ fn internal(fault: UseFault) -> Close {
 #[cfg(test)]
 mod tests {
     use super::*;
-    use gotsavena::{Role, Settings};
+    use gotsavena::{Received, Role, Settings};
 
     struct Pair {
         client: Endpoint,
@@ -262,12 +262,14 @@ mod tests {
             for _ in 0..2 {
                 while let Some(made) = self.client.make_packet(&mut payload).unwrap() {
                     let payload = &payload[..made.len];
-                    self.server.receive(made.number, payload).unwrap();
+                    let taken = self.server.receive(made.number, payload);
+                    assert_eq!(taken, Ok(Received::Done));
                 }
                 self.application.progress(&mut self.server)?;
                 while let Some(made) = self.server.make_packet(&mut payload).unwrap() {
                     let payload = &payload[..made.len];
-                    self.client.receive(made.number, payload).unwrap();
+                    let taken = self.client.receive(made.number, payload);
+                    assert_eq!(taken, Ok(Received::Done));
                 }
             }
             let mut answer = Vec::new();

@@ -1,7 +1,7 @@
 //! Sends a file from one process to another over UDP: `file receive ADDRESS COPY` in one terminal, then
 //! `file send ADDRESS FILE` in another. A datagram is a packet number and a payload; a real transport encrypts both.
 
-use gotsavena::{Dir, Endpoint, LostFault, Read, Role, SendState, Settings};
+use gotsavena::{Dir, Endpoint, LostFault, Read, Received, Role, SendState, Settings};
 use std::collections::BTreeMap;
 use std::fs::File;
 use std::io::{ErrorKind, Read as _, Write as _};
@@ -49,9 +49,13 @@ impl Link {
             Err(error) => return Err(error.into()),
         };
         if let Some((number, payload)) = datagram[..len].split_first_chunk() {
+            let (number, end) = (u64::from_be_bytes(*number), &mut self.end);
             let acked = |number| _ = self.in_flight.remove(&number);
-            self.end
-                .receive_with_acks(u64::from_be_bytes(*number), payload, acked)?;
+            let received = end.receive_with_acks(number, payload, acked)?;
+            if let Received::PeerClosed(code) = received {
+                return Err(format!("the peer closed with code {code}").into());
+            }
+            // Any other took effect, or came before, or memory was refused: then it counts as lost and comes again.
         }
         Ok(true)
     }

@@ -47,6 +47,7 @@ pub struct NotedClose {
 
 /// What came of a payload that didn't make this endpoint close.
 #[derive(Clone, Copy, Debug, PartialEq, Eq)]
+#[must_use = "it says whether the payload took effect, and whether the peer closed"]
 pub enum Received {
     /// All frames took effect, and the packet number is kept. A stack that writes ACKs itself may name only these numbers: what it
     /// acknowledges the peer never sends again.
@@ -68,6 +69,7 @@ pub enum Received {
 
 /// What came of a single frame ([`Endpoint::take_frame`](crate::Endpoint::take_frame)).
 #[derive(Clone, Copy, Debug, PartialEq, Eq)]
+#[must_use = "it says whether the frame changed anything, and whether it is the stack's"]
 #[allow(missing_docs)]
 pub enum Taken {
     Took,
@@ -92,6 +94,7 @@ impl Taken {
 
 /// What a read returns (RFC 9000, section 2.2).
 #[derive(Clone, Copy, Debug, PartialEq, Eq)]
+#[must_use = "it says how many bytes were read, or why none"]
 pub enum Read {
     /// So many bytes were read into the slice's front. 0 only if the slice is empty, so that a loop never takes 0 for the end.
     Bytes(usize),

@@ -6,7 +6,7 @@
 //! no socket, clock or thread: that is the transport's.
 //!
 //! ```
-//! use gotsavena::{Dir, Endpoint, Read, Role, Settings};
+//! use gotsavena::{Dir, Endpoint, Read, Received, Role, Settings};
 //! fn main() -> Result<(), Box<dyn std::error::Error>> {
 //!     let settings = Settings::default(); // 100 streams of each direction
 //!     let mut client = Endpoint::new(Role::Client, settings, settings.limits())?; // own, peer's
@@ -18,7 +18,8 @@
 //!     let lost = client.make_packet(&mut payload)?.expect("bytes are pending"); // never sent
 //!     client.declare_lost(lost.number)?;
 //!     while let Some(made) = client.make_packet(&mut payload)? {
-//!         server.receive(made.number, &payload[..made.len])?; // the network
+//!         // The network.
+//!         assert_eq!(server.receive(made.number, &payload[..made.len])?, Received::Done);
 //!     }
 //!     assert_eq!(server.accept(), Some(stream));
 //!     assert_eq!(server.read(stream, &mut bytes)?, Read::Bytes(5));
@@ -96,6 +97,8 @@
 #![no_std]
 #![forbid(unsafe_code)]
 #![deny(missing_docs)]
+// The examples look at what each call returns.
+#![doc(test(attr(deny(unused_must_use))))]
 
 #[cfg(not(target_pointer_width = "64"))]
 compile_error!("gotsavena needs a target with pointers of 64 bits");

@@ -40,7 +40,7 @@ pub struct SendStream<'a> {
 ///
 /// ```
 /// # #[cfg(feature = "std")] {
-/// use gotsavena::{Dir, Endpoint, Role, Settings};
+/// use gotsavena::{Dir, Endpoint, Received, Role, Settings};
 /// use std::io::{ErrorKind, Read};
 ///
 /// let settings = Settings::default();
@@ -51,7 +51,7 @@ pub struct SendStream<'a> {
 /// client.finish(stream)?;
 /// let mut payload = [0; 1200];
 /// let made = client.make_packet(&mut payload)?.expect("bytes are due");
-/// server.receive(made.number, &payload[..made.len])?;
+/// assert_eq!(server.receive(made.number, &payload[..made.len])?, Received::Done);
 ///
 /// let mut bytes = Vec::new();
 /// server.recv_stream(stream).read_to_end(&mut bytes)?;

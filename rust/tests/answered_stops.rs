@@ -1,7 +1,7 @@
 //! A STOP_SENDING that the application answers, one that resets the stream at once, and one that arrives too late for either.
 
 use gotsavena::{
-    Dir, Endpoint, Event, Read, RecvState, Role, SendState, Settings, StreamId, Tuning,
+    Dir, Endpoint, Event, Read, Received, RecvState, Role, SendState, Settings, StreamId, Tuning,
 };
 
 /// A client that answers stops or doesn't, and a server, with one stream of the client's that carried three bytes.
@@ -22,9 +22,8 @@ fn settle(ends: &mut [Endpoint; 2]) {
     let mut payload = [0; 1200];
     for from in [0, 1, 0, 1, 0, 1] {
         if let Some(made) = ends[from].make_packet(&mut payload).expect("open") {
-            ends[1 - from]
-                .receive(made.number, &payload[..made.len])
-                .expect("of the other end");
+            let taken = ends[1 - from].receive(made.number, &payload[..made.len]);
+            assert_eq!(taken, Ok(Received::Done));
         }
     }
 }

@@ -2,7 +2,7 @@
 
 use gotsavena::{
     Dir, Endpoint, Frame, LostFault, OpenFault, PeerLimits, RaiseFault, Read, ReceiveFault,
-    Received, Role, Settings, SetupFault, StreamId,
+    Received, Role, Settings, SetupFault, StreamId, Taken,
 };
 
 fn ends(settings: Settings) -> (Endpoint, Endpoint) {
@@ -108,14 +108,15 @@ fn credit_alone_blocks() {
     assert!(!client.is_blocked(StreamId::new(400).expect("small")));
     // The reader takes all, and its credit comes back.
     let mut bytes = [0; 16];
-    server.read(first, &mut bytes).expect("open");
+    assert!(matches!(server.read(first, &mut bytes), Ok(Read::Bytes(_))));
     while pass(&mut server, &mut client).is_some() {}
     assert!(!client.is_blocked(first));
     // A closed end sends nothing, so nothing waits.
     client.write(first, &[7; 8]).expect("open");
     pass(&mut client, &mut server).expect("due");
     assert!(client.is_blocked(first));
-    client.receive(99, &[0x1d, 0x07, 0x00]).expect("a close");
+    let closed = client.receive(99, &[0x1d, 0x07, 0x00]);
+    assert_eq!(closed, Ok(Received::PeerClosed(7)));
     assert!(!client.is_blocked(first));
 }
 
@@ -131,9 +132,8 @@ fn outstanding_packets_are_found() {
         let made = made.expect("due");
         assert_eq!(made.number, number);
         if number == 1 {
-            server
-                .receive(made.number, &payload[..made.len])
-                .expect("sound");
+            let taken = server.receive(made.number, &payload[..made.len]);
+            assert_eq!(taken, Ok(Received::Done));
         }
     }
     assert_eq!(client.next_outstanding(0), Some(0));
@@ -303,15 +303,15 @@ fn newly_acknowledged_packets_are_told_by_what_is_outstanding() {
     }
     for number in [0, 1, 3] {
         let (made, payload) = payloads[number];
-        server
-            .receive(made.number, &payload[..made.len])
-            .expect("sound");
+        let taken = server.receive(made.number, &payload[..made.len]);
+        assert_eq!(taken, Ok(Received::Done));
     }
     let mut ack = [0; 200];
     let made = server.make_packet(&mut ack).expect("open").expect("an ACK");
     let before = outstanding(&client);
     let told = newly_acked(&client, &ack[..made.len]);
-    client.receive(0, &ack[..made.len]).expect("sound");
+    let taken = client.receive(0, &ack[..made.len]);
+    assert_eq!(taken, Ok(Received::Done));
     let after = outstanding(&client);
     let newly: Vec<u64> = before
         .iter()
@@ -322,7 +322,8 @@ fn newly_acknowledged_packets_are_told_by_what_is_outstanding() {
     assert_eq!(told, newly);
     assert_eq!(newly_acked(&client, &ack[..made.len]), []);
     // The same ACK in another packet acknowledges nothing more.
-    client.receive(1, &ack[..made.len]).expect("sound");
+    let taken = client.receive(1, &ack[..made.len]);
+    assert_eq!(taken, Ok(Received::Done));
     assert_eq!(outstanding(&client), after);
 }
 
@@ -450,7 +451,8 @@ fn the_code_of_a_stop_is_told_of_a_half_that_was_not_over() {
     };
     assert_eq!((reset(streams[0]), reset(streams[1])), (Some(7), Some(41)));
     // STOP_SENDING of the third stream and again of the first, with other codes.
-    client.receive(90, &[5, 8, 9, 5, 0, 10]).expect("sound");
+    let taken = client.receive(90, &[5, 8, 9, 5, 0, 10]);
+    assert_eq!(taken, Ok(Received::Done));
     assert_eq!(client.stopped_with(streams[0]), Some(7));
     assert_eq!(client.stopped_with(streams[2]), None);
     assert_eq!(
@@ -557,7 +559,7 @@ fn noted_counts_runs_until_a_reset_or_the_end_is_told() {
             fin,
             bytes,
         };
-        server.take_frame(&frame).expect("within credit");
+        assert_eq!(server.take_frame(&frame), Ok(Taken::Took));
         server.noted()
     };
     assert_eq!(server.noted(), 0);
@@ -580,7 +582,7 @@ fn noted_counts_runs_until_a_reset_or_the_end_is_told() {
         code: 1,
         final_size: 2002,
     };
-    server.take_frame(&frame).expect("within credit");
+    assert_eq!(server.take_frame(&frame), Ok(Taken::Took));
     assert_eq!(server.noted(), 3);
     // The end of stream 0 comes, and its reader is told.
     assert_eq!(put(&mut server, 0, 1, true), 3);

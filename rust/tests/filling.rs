@@ -1,7 +1,8 @@
 //! What is filled in, for a packet of a stack that owns its packets.
 
 use gotsavena::{
-    Dir, Endpoint, Fill, Filled, Frame, MIN_FILL, MakeFault, Read, Role, Settings, StreamId, frames,
+    Dir, Endpoint, Fill, Filled, Frame, MIN_FILL, MakeFault, Read, Received, Role, Settings,
+    StreamId, frames,
 };
 
 fn pair() -> (Endpoint, Endpoint) {
@@ -70,7 +71,7 @@ fn each_kind_alone() {
 #[test]
 fn data_leaves_items_due() {
     let (mut one, _streams) = busy();
-    fill(&mut one, 100, Fill::data()).expect("bytes are due");
+    assert!(fill(&mut one, 100, Fill::data()).is_some());
     assert!(fill(&mut one, 100, Fill::data()).is_none());
     let (_filled, text) = fill(&mut one, 100, Fill::all()).expect("a reset is due");
     assert!(has_items(&text));
@@ -164,7 +165,7 @@ fn a_cap_of_none_lets_items_and_ends_in() {
     let (filled, text) = fill(&mut one, 100, Fill::all().at_most(0)).expect("the reset is due");
     assert!(has_items(&text) && streams_of(&text).is_empty() && !filled.more);
     assert!(fill(&mut one, 100, Fill::data().at_most(0)).is_none());
-    fill(&mut one, 100, Fill::data().only(streams[1])).expect("bytes are due");
+    assert!(fill(&mut one, 100, Fill::data().only(streams[1])).is_some());
     one.finish(streams[1]).expect("open");
     one.finish(streams[2]).expect("open");
     let (_filled, text) = fill(&mut one, 100, Fill::data().at_most(0)).expect("an end is due");
@@ -179,9 +180,8 @@ fn the_ack_stays_due() {
     let (_, mut other) = pair();
     let mut payload = [0; 1200];
     let made = one.make_packet(&mut payload).expect("open").expect("due");
-    other
-        .receive(made.number, &payload[..made.len])
-        .expect("lawful");
+    let taken = other.receive(made.number, &payload[..made.len]);
+    assert_eq!(taken, Ok(Received::Done));
     assert!(other.ack_is_due());
     other.stop(streams[1], 3).expect("open");
     let (_filled, text) = fill(&mut other, 100, Fill::all()).expect("STOP_SENDING is due");
@@ -228,7 +228,7 @@ fn a_large_room_takes_much() {
     assert_eq!(one.write(stream, &bytes), Ok(bytes.len()));
     let (filled, text) = fill(&mut one, 65_535, Fill::all()).expect("due");
     assert!(!filled.more && text.len() > bytes.len());
-    other.receive(0, &text).expect("lawful");
+    assert_eq!(other.receive(0, &text), Ok(Received::Done));
     let mut read = vec![0; bytes.len()];
     assert_eq!(other.read(stream, &mut read), Ok(Read::Bytes(bytes.len())));
     assert_eq!(read, bytes);

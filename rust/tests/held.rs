@@ -1,6 +1,6 @@
 //! What an end keeps of streams, in bytes that its calls took and haven't given back.
 
-use gotsavena::{Dir, Endpoint, Held, Read, Role, Settings, StreamId};
+use gotsavena::{Dir, Endpoint, Held, Read, Received, Role, Settings, StreamId};
 use std::alloc::{GlobalAlloc, Layout, System};
 use std::cell::Cell;
 
@@ -94,8 +94,8 @@ impl Two {
 fn carry(from: &mut Endpoint, to: &mut Endpoint) -> usize {
     let (mut payload, mut count) = ([0; 1200], 0);
     while let Some(made) = from.make_packet(&mut payload).expect("a packet") {
-        to.receive(made.number, &payload[..made.len])
-            .expect("a lawful payload");
+        let taken = to.receive(made.number, &payload[..made.len]);
+        assert_eq!(taken, Ok(Received::Done));
         count += 1;
     }
     count
@@ -273,7 +273,7 @@ fn ping(room: usize) -> usize {
     let before = live();
     let mut end = Two::new(Settings::default()).server;
     assert_eq!(live(), before);
-    end.receive(0, &[PING]).expect("a frame");
+    assert_eq!(end.receive(0, &[PING]), Ok(Received::Done));
     let made = end.make_packet(&mut payload).expect("memory");
     assert!(made.is_some());
     live() - before

@@ -257,7 +257,7 @@ mod io {
     use super::support::two_ends;
     use super::{ASKED, IS_CALLED, REFUSED};
     use gotsavena::{
-        CloseKind, Closer, Dir, Endpoint, Frame, NotedClose, Settings, StreamId, Taken,
+        CloseKind, Closer, Dir, Endpoint, Frame, NotedClose, Received, Settings, StreamId, Taken,
     };
     use std::io::{self, ErrorKind, Read, Write};
 
@@ -324,9 +324,8 @@ mod io {
             .make_packet(&mut payload)
             .expect("open")
             .expect("due");
-        server
-            .receive(made.number, &payload[..made.len])
-            .expect("frames");
+        let taken = server.receive(made.number, &payload[..made.len]);
+        assert_eq!(taken, Ok(Received::Done));
         let mut bytes = [0; 8];
         server
             .recv_stream(waits)

@@ -66,9 +66,8 @@ fn honest_payloads() -> Vec<Vec<u8>> {
                     payloads.push(out[..made.len].to_vec());
                 }
                 let ends = [&mut client, &mut server];
-                ends[to]
-                    .receive(made.number, &out[..made.len])
-                    .expect("honest");
+                let taken = ends[to].receive(made.number, &out[..made.len]);
+                assert_eq!(taken, Ok(Received::Done));
             }
             let mut into = [0; 200];
             while let Some(stream) = server.accept() {

@@ -516,7 +516,7 @@ fn a_stop_is_told_whatever_its_code() {
 #[cfg(feature = "std")]
 mod io {
     use super::{Settings, two_ends};
-    use gotsavena::{Dir, UseFault};
+    use gotsavena::{Dir, Received, UseFault};
     use std::io::{ErrorKind, Read, Write};
 
     #[test]
@@ -538,9 +538,8 @@ mod io {
             .make_packet(&mut payload)
             .expect("open")
             .expect("due");
-        server
-            .receive(made.number, &payload[..made.len])
-            .expect("frames");
+        let taken = server.receive(made.number, &payload[..made.len]);
+        assert_eq!(taken, Ok(Received::Done));
         let mut reader = server.recv_stream(id);
         let mut bytes = [0; 5];
         reader.read_exact(&mut bytes).expect("it came");
@@ -569,9 +568,8 @@ mod io {
             .make_packet(&mut payload)
             .expect("open")
             .expect("due");
-        server
-            .receive(made.number, &payload[..made.len])
-            .expect("frames");
+        let taken = server.receive(made.number, &payload[..made.len]);
+        assert_eq!(taken, Ok(Received::Done));
         let mut reader = server.recv_stream(id);
         let error = reader.read(&mut [0; 8]).expect_err("a reset");
         assert_eq!(error.kind(), ErrorKind::ConnectionReset);

@@ -4,7 +4,7 @@
 mod refusing;
 mod support;
 
-use gotsavena::{Dir, Endpoint, Event, Read, Role, Settings, StreamId, Tuning, UseFault};
+use gotsavena::{Dir, Endpoint, Event, Read, Received, Role, Settings, StreamId, Tuning, UseFault};
 use refusing::{ASKED, IS_CALLED, REFUSED};
 use support::Random;
 
@@ -20,7 +20,7 @@ fn pass(ends: &mut [Endpoint; 2], from: usize) -> Option<u64> {
     let mut payload = [0; 1200];
     let made = ends[from].make_packet(&mut payload).expect("open")?;
     let taken = ends[1 - from].receive(made.number, &payload[..made.len]);
-    taken.expect("of the other end");
+    assert_eq!(taken, Ok(Received::Done));
     Some(made.number)
 }
 

@@ -1,6 +1,6 @@
 //! Settings that the application changes while the endpoint runs.
 
-use gotsavena::{Dir, Endpoint, Received, Role, SetFault, Settings, StreamId};
+use gotsavena::{Dir, Endpoint, Read, Received, Role, SetFault, Settings, StreamId};
 
 fn ends(settings: Settings) -> (Endpoint, Endpoint) {
     let client = Endpoint::new(Role::Client, settings, settings.limits()).expect("in range");
@@ -53,7 +53,7 @@ fn a_smaller_buffer_keeps_what_it_has() {
     assert_eq!(client.next_writable(first()), None);
     pass(&mut client, &mut server);
     let mut read = [0; 16];
-    server.read(stream, &mut read).expect("it came");
+    assert_eq!(server.read(stream, &mut read), Ok(Read::Bytes(8)));
     assert_eq!(&read[..8], b"abcdefgh");
     pass(&mut server, &mut client);
     assert_eq!(client.room(stream), 3);

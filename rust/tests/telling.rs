@@ -65,7 +65,8 @@ fn one_that_closed_stays() {
     one.note_closed(BY_PEER);
     assert_eq!(one.noted_close(), Some(BY_US));
     let mut other = end();
-    other.receive(0, &[0x1c, 5, 0, 0]).expect("the peer closes");
+    let closed = other.receive(0, &[0x1c, 5, 0, 0]);
+    assert_eq!(closed, Ok(Received::PeerClosed(5)));
     other.note_closed(BY_US);
     assert_eq!((other.noted_close(), other.peer_closed()), (None, Some(5)));
 }
@@ -77,7 +78,8 @@ fn what_came_in_is_read_on_by_choice() {
     let limits = settings.limits();
     let mut one = Endpoint::with_tuning(Role::Server, settings, tuning, limits).expect("in range");
     // STREAM of stream 2, with its end.
-    one.receive(0, &[0x0b, 2, 2, b'h', b'i']).expect("lawful");
+    let taken = one.receive(0, &[0x0b, 2, 2, b'h', b'i']);
+    assert_eq!(taken, Ok(Received::Done));
     let stream = one.accept().expect("it came");
     one.note_closed(BY_PEER);
     let mut read = [0; 8];

@@ -1,7 +1,7 @@
 //! The frames of one packet handed over together are the payload, but for its number; and not quite the frames one by one.
 
 use gotsavena::{
-    Dir, Endpoint, Frame, Read, Role, Settings, StreamId, TakeFault, Taken, frames, put,
+    Dir, Endpoint, Frame, Read, Received, Role, Settings, StreamId, TakeFault, Taken, frames, put,
 };
 
 const WINDOW: u64 = 100;
@@ -46,7 +46,7 @@ fn frames_together_are_their_payload() {
         let [mut client, mut one] = two_ends();
         let [_, mut other] = two_ends();
         let (number, payload, streams) = packet_of(&mut client, count);
-        one.receive(number, &payload).expect("an honest packet");
+        assert_eq!(one.receive(number, &payload), Ok(Received::Done));
         let all = frames_of(&payload);
         assert!(all.len() >= count);
         assert_eq!(other.take_frames(&all), Ok(Taken::Took));

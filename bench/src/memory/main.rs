@@ -41,7 +41,8 @@ impl Two {
 fn hand_on(from: &mut Endpoint, to: &mut Endpoint) {
     let mut payload = [0; 1200];
     while let Ok(Some(made)) = from.make_packet(&mut payload) {
-        to.receive(made.number, &payload[..made.len])
+        _ = to
+            .receive(made.number, &payload[..made.len])
             .expect("an honest packet");
     }
 }
@@ -84,7 +85,8 @@ fn far_bytes(streams: u64, offset: u64) -> f64 {
             bytes: source.at(offset),
         };
         let len = gotsavena::put(&frame, &mut payload).expect("it fits");
-        end.receive(index, &payload[..len])
+        _ = end
+            .receive(index, &payload[..len])
             .expect("within the credit");
     }
     assert_eq!(end.spent(), streams * (offset + 1));
@@ -228,7 +230,8 @@ fn first_byte(window: u64) -> f64 {
             .collect();
         let began = Instant::now();
         for (number, payload, len) in &payloads {
-            end.receive(*number, &payload[..*len])
+            _ = end
+                .receive(*number, &payload[..*len])
                 .expect("within the credit");
         }
         least = least.min(began.elapsed().as_nanos() as f64 / 400.0);
@@ -257,7 +260,7 @@ fn idle() -> f64 {
     };
     let mut payload = [0; 16];
     let len = gotsavena::put(&frame, &mut payload).expect("it fits");
-    end.receive(0, &payload[..len]).expect("an honest packet");
+    _ = end.receive(0, &payload[..len]).expect("an honest packet");
     assert_eq!(std::iter::from_fn(|| end.accept()).count(), 1808);
     (live() - before) as f64 / 10_000.0
 }

@@ -8,7 +8,7 @@ use crate::fault::Close;
 use crate::files::Folder;
 use crate::log::SAID;
 use crate::streams::{Application, Body};
-use gotsavena::{Dir, Endpoint, Role, Settings, StreamId};
+use gotsavena::{Dir, Endpoint, Received, Role, Settings, StreamId};
 use std::collections::{BTreeMap, HashMap};
 use std::time::Duration;
 
@@ -103,12 +103,14 @@ impl Pair {
         self.session.write(&mut self.client)?;
         while let Some(made) = self.client.make_packet(&mut payload).unwrap() {
             let payload = &payload[..made.len];
-            self.server.receive(made.number, payload).unwrap();
+            let taken = self.server.receive(made.number, payload);
+            assert_eq!(taken, Ok(Received::Done));
         }
         self.application.progress(&mut self.server)?;
         while let Some(made) = self.server.make_packet(&mut payload).unwrap() {
             let payload = &payload[..made.len];
-            self.client.receive(made.number, payload).unwrap();
+            let taken = self.client.receive(made.number, payload);
+            assert_eq!(taken, Ok(Received::Done));
         }
         self.session.progress(&mut self.client)?;
         while let Some(event) = self.session.next_event() {

@@ -45,7 +45,7 @@ impl Endpoint {
     /// The code with which the peer closed by a frame that was received here; `None` if it didn't (RFC 9000, section 10.2).
     ///
     /// ```
-    /// # use gotsavena::{Endpoint, Role, Settings};
+    /// # use gotsavena::{Endpoint, Received, Role, Settings};
     /// # let settings = Settings::default();
     /// # let mut client = Endpoint::new(Role::Client, settings, settings.limits())?;
     /// # let mut server = Endpoint::new(Role::Server, settings, settings.limits())?;
@@ -53,7 +53,7 @@ impl Endpoint {
     /// // No frame has the type 0x1f: FRAME_ENCODING_ERROR (section 12.4).
     /// server.receive(0, &[0x1f]).unwrap_err();
     /// let len = server.close_payload(&mut payload).expect("it closed");
-    /// client.receive(0, &payload[..len])?;
+    /// assert_eq!(client.receive(0, &payload[..len])?, Received::PeerClosed(0x07));
     /// assert_eq!((client.peer_closed(), server.peer_closed()), (Some(0x07), None));
     /// # Ok::<(), Box<dyn std::error::Error>>(())
     /// ```

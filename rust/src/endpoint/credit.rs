@@ -132,7 +132,7 @@ impl Endpoint {
     /// that a peer gains nothing by leaving some.
     ///
     /// ```
-    /// # use gotsavena::{Dir, Endpoint, Role, Settings};
+    /// # use gotsavena::{Dir, Endpoint, Received, Role, Settings};
     /// # let settings = Settings::default();
     /// # let mut client = Endpoint::new(Role::Client, settings, settings.limits())?;
     /// # let mut server = Endpoint::new(Role::Server, settings, settings.limits())?;
@@ -140,7 +140,7 @@ impl Endpoint {
     /// # let deliver = |from: &mut Endpoint, to: &mut Endpoint| -> Result<(), Box<dyn std::error::Error>> {
     /// #     let mut payload = [0; 1200];
     /// #     while let Some(made) = from.make_packet(&mut payload)? {
-    /// #         to.receive(made.number, &payload[..made.len])?;
+    /// #         assert_eq!(to.receive(made.number, &payload[..made.len])?, Received::Done);
     /// #     }
     /// #     Ok(())
     /// # };
@@ -159,7 +159,7 @@ impl Endpoint {
     /// (RFC 9000, section 4.1).
     ///
     /// ```
-    /// # use gotsavena::{Dir, Endpoint, Role, Settings};
+    /// # use gotsavena::{Dir, Endpoint, Read, Received, Role, Settings};
     /// # let settings = Settings::default();
     /// # let mut client = Endpoint::new(Role::Client, settings, settings.limits())?;
     /// # let mut server = Endpoint::new(Role::Server, settings, settings.limits())?;
@@ -167,7 +167,7 @@ impl Endpoint {
     /// # let deliver = |from: &mut Endpoint, to: &mut Endpoint| -> Result<(), Box<dyn std::error::Error>> {
     /// #     let mut payload = [0; 1200];
     /// #     while let Some(made) = from.make_packet(&mut payload)? {
-    /// #         to.receive(made.number, &payload[..made.len])?;
+    /// #         assert_eq!(to.receive(made.number, &payload[..made.len])?, Received::Done);
     /// #     }
     /// #     Ok(())
     /// # };
@@ -175,7 +175,7 @@ impl Endpoint {
     /// client.write(stream, b"hello")?;
     /// deliver(&mut client, &mut server)?;
     /// assert_eq!(server.stored(), 5);
-    /// server.read(stream, &mut [0; 3])?;
+    /// assert_eq!(server.read(stream, &mut [0; 3])?, Read::Bytes(3));
     /// assert_eq!(server.stored(), 2);
     /// # Ok::<(), Box<dyn std::error::Error>>(())
     /// ```
@@ -191,7 +191,7 @@ impl Endpoint {
     /// Compare it from time to time to see how fast a window is used up, and so whether a greater one would help.
     ///
     /// ```
-    /// use gotsavena::{Dir, Endpoint, Read, Role, Settings};
+    /// use gotsavena::{Dir, Endpoint, Read, Received, Role, Settings};
     ///
     /// let settings = Settings::default();
     /// let mut client = Endpoint::new(Role::Client, settings, settings.limits())?;
@@ -200,7 +200,7 @@ impl Endpoint {
     /// client.write(stream, b"hello")?;
     /// let mut payload = [0; 1200];
     /// let made = client.make_packet(&mut payload)?.expect("bytes are due");
-    /// server.receive(made.number, &payload[..made.len])?;
+    /// assert_eq!(server.receive(made.number, &payload[..made.len])?, Received::Done);
     ///
     /// assert_eq!((server.taken(stream), server.taken_sum()), (Some(0), 0));
     /// assert_eq!(server.read(stream, &mut [0; 3])?, Read::Bytes(3));
@@ -216,7 +216,7 @@ impl Endpoint {
     /// follows (RFC 9000, section 4.2). Constant time.
     ///
     /// ```
-    /// # use gotsavena::{Dir, Endpoint, Role, Settings};
+    /// # use gotsavena::{Dir, Endpoint, Received, Role, Settings};
     /// # let settings = Settings::default();
     /// # let mut client = Endpoint::new(Role::Client, settings, settings.limits())?;
     /// # let mut server = Endpoint::new(Role::Server, settings, settings.limits())?;
@@ -224,7 +224,7 @@ impl Endpoint {
     /// # let deliver = |from: &mut Endpoint, to: &mut Endpoint| -> Result<(), Box<dyn std::error::Error>> {
     /// #     let mut payload = [0; 1200];
     /// #     while let Some(made) = from.make_packet(&mut payload)? {
-    /// #         to.receive(made.number, &payload[..made.len])?;
+    /// #         assert_eq!(to.receive(made.number, &payload[..made.len])?, Received::Done);
     /// #     }
     /// #     Ok(())
     /// # };
@@ -249,12 +249,13 @@ impl Endpoint {
     /// own bidirectional ones), and of a thousandth of the connection's window.
     ///
     /// ```
-    /// use gotsavena::{Endpoint, Frame, Role, Settings, StreamId};
+    /// use gotsavena::{Endpoint, Frame, Role, Settings, StreamId, Taken};
     /// let settings = Settings::default();
     /// let mut server = Endpoint::new(Role::Server, settings, settings.limits())?;
     /// let stream = StreamId::new(0).expect("below 2^62");
     /// for offset in [0, 2, 4] {
-    ///     server.take_frame(&Frame::Stream { stream, offset, fin: false, bytes: b"x" })?;
+    ///     let frame = Frame::Stream { stream, offset, fin: false, bytes: b"x" };
+    ///     assert_eq!(server.take_frame(&frame)?, Taken::Took);
     /// }
     /// assert_eq!(server.noted(), 3);
     /// # Ok::<(), Box<dyn std::error::Error>>(())
@@ -295,7 +296,7 @@ impl Endpoint {
     /// ([`count_step`](crate::Tuning::count_step)), only whole steps count.
     ///
     /// ```
-    /// # use gotsavena::{Dir, Endpoint, Read, Role, Settings};
+    /// # use gotsavena::{Dir, Endpoint, Read, Received, Role, Settings};
     /// # let settings = Settings::default();
     /// # let mut client = Endpoint::new(Role::Client, settings, settings.limits())?;
     /// # let mut server = Endpoint::new(Role::Server, settings, settings.limits())?;
@@ -303,7 +304,7 @@ impl Endpoint {
     /// # let deliver = |from: &mut Endpoint, to: &mut Endpoint| -> Result<(), Box<dyn std::error::Error>> {
     /// #     let mut payload = [0; 1200];
     /// #     while let Some(made) = from.make_packet(&mut payload)? {
-    /// #         to.receive(made.number, &payload[..made.len])?;
+    /// #         assert_eq!(to.receive(made.number, &payload[..made.len])?, Received::Done);
     /// #     }
     /// #     Ok(())
     /// # };
@@ -324,7 +325,7 @@ impl Endpoint {
     /// each ended stream are kept; at 0 a new connection is needed (RFC 9000, section 4.6).
     ///
     /// ```
-    /// # use gotsavena::{Dir, Endpoint, Role, Settings};
+    /// # use gotsavena::{Dir, Endpoint, Received, Role, Settings};
     /// # let settings = Settings::default();
     /// # let mut client = Endpoint::new(Role::Client, settings, settings.limits())?;
     /// # let mut server = Endpoint::new(Role::Server, settings, settings.limits())?;
@@ -332,7 +333,7 @@ impl Endpoint {
     /// # let deliver = |from: &mut Endpoint, to: &mut Endpoint| -> Result<(), Box<dyn std::error::Error>> {
     /// #     let mut payload = [0; 1200];
     /// #     while let Some(made) = from.make_packet(&mut payload)? {
-    /// #         to.receive(made.number, &payload[..made.len])?;
+    /// #         assert_eq!(to.receive(made.number, &payload[..made.len])?, Received::Done);
     /// #     }
     /// #     Ok(())
     /// # };

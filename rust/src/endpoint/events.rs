@@ -24,7 +24,7 @@ impl Endpoint {
     /// never asked only notes which streams had a write cut short, so that one who begins late doesn't wait in vain.
     ///
     /// ```
-    /// use gotsavena::{Dir, Endpoint, Event, Read, Role, Settings};
+    /// use gotsavena::{Dir, Endpoint, Event, Read, Received, Role, Settings};
     ///
     /// let settings = Settings::default().send_buffer(4);
     /// let mut client = Endpoint::new(Role::Client, settings, settings.limits())?;
@@ -38,7 +38,7 @@ impl Endpoint {
     /// while received.len() < 5 {
     ///     let mut payload = [0; 1200];
     ///     if let Some(made) = client.make_packet(&mut payload)? {
-    ///         server.receive(made.number, &payload[..made.len])?;
+    ///         assert_eq!(server.receive(made.number, &payload[..made.len])?, Received::Done);
     ///     }
     ///     while let Some(event) = server.next_event()? {
     ///         if let Event::Readable(stream) = event {
@@ -49,7 +49,7 @@ impl Endpoint {
     ///         }
     ///     }
     ///     if let Some(made) = server.make_packet(&mut payload)? {
-    ///         client.receive(made.number, &payload[..made.len])?;
+    ///         assert_eq!(client.receive(made.number, &payload[..made.len])?, Received::Done);
     ///     }
     ///     while let Some(event) = client.next_event()? {
     ///         if event == Event::Writable(stream) {
@@ -86,7 +86,7 @@ impl Endpoint {
     /// event is asked for: if the stream's length becomes known first, it is left out.
     ///
     /// ```
-    /// use gotsavena::{Dir, Endpoint, Event, Role, Settings};
+    /// use gotsavena::{Dir, Endpoint, Event, Received, Role, Settings};
     ///
     /// let settings = Settings::default().conn_window(4);
     /// let mut client = Endpoint::new(Role::Client, settings, settings.limits())?;
@@ -97,14 +97,14 @@ impl Endpoint {
     ///
     /// let mut payload = [0; 1200];
     /// while let Some(made) = client.make_packet(&mut payload)? {
-    ///     server.receive(made.number, &payload[..made.len])?;
+    ///     assert_eq!(server.receive(made.number, &payload[..made.len])?, Received::Done);
     ///     while let Some(event) = server.next_event()? {
     ///         if event == Event::DataBlocked {
     ///             server.set_conn_window(2 * server.granted())?;
     ///         }
     ///     }
     ///     if let Some(made) = server.make_packet(&mut payload)? {
-    ///         client.receive(made.number, &payload[..made.len])?;
+    ///         assert_eq!(client.receive(made.number, &payload[..made.len])?, Received::Done);
     ///     }
     /// }
     /// assert_eq!((server.granted(), server.stored()), (16, 12));

@@ -58,7 +58,7 @@ impl Endpoint {
     /// # Example
     ///
     /// ```
-    /// use gotsavena::{Dir, Endpoint, Role, Settings};
+    /// use gotsavena::{Dir, Endpoint, Received, Role, Settings};
     ///
     /// let settings = Settings::default();
     /// let mut client = Endpoint::new(Role::Client, settings, settings.limits())?;
@@ -68,12 +68,12 @@ impl Endpoint {
     ///
     /// let mut payload = [0; 1200];
     /// let made = client.make_packet(&mut payload)?.expect("bytes are due");
-    /// server.receive(made.number, &payload[..made.len])?;
+    /// assert_eq!(server.receive(made.number, &payload[..made.len])?, Received::Done);
     /// let ack = server.make_packet(&mut payload)?.expect("an ACK is due");
     ///
     /// let mut acked = Vec::new();
-    /// client.receive_with_acks(ack.number, &payload[..ack.len], |number| acked.push(number))?;
-    /// assert_eq!(acked, [made.number]);
+    /// let received = client.receive_with_acks(ack.number, &payload[..ack.len], |number| acked.push(number))?;
+    /// assert_eq!((received, acked), (Received::Done, vec![made.number]));
     /// # Ok::<(), Box<dyn std::error::Error>>(())
     /// ```
     pub fn receive_with_acks(
@@ -120,7 +120,7 @@ impl Endpoint {
     /// an ACK alone asks for no ACK and needn't be declared lost. `out` has 128 to 16,383 bytes ([`MIN_ROOM`], [`MAX_ROOM`]).
     ///
     /// ```
-    /// # use gotsavena::{Dir, Endpoint, Role, Settings};
+    /// # use gotsavena::{Dir, Endpoint, Received, Role, Settings};
     /// # let settings = Settings::default();
     /// # let mut client = Endpoint::new(Role::Client, settings, settings.limits())?;
     /// # let mut server = Endpoint::new(Role::Server, settings, settings.limits())?;
@@ -130,7 +130,8 @@ impl Endpoint {
     /// client.write(stream, b"hello")?;
     /// let made = client.make_packet(&mut payload)?.expect("bytes are pending");
     /// assert_eq!((made.number, made.is_ack_eliciting), (0, true));
-    /// server.receive(made.number, &payload[..made.len])?; // the network
+    /// // The network.
+    /// assert_eq!(server.receive(made.number, &payload[..made.len])?, Received::Done);
     /// # Ok::<(), Box<dyn std::error::Error>>(())
     /// ```
     ///
@@ -196,7 +197,7 @@ impl Endpoint {
     /// be declared lost. What else is pending stays so. It takes no memory.
     ///
     /// ```
-    /// # use gotsavena::{Dir, Endpoint, Role, Settings};
+    /// # use gotsavena::{Dir, Endpoint, Received, Role, Settings};
     /// # let settings = Settings::default();
     /// # let mut client = Endpoint::new(Role::Client, settings, settings.limits())?;
     /// # let mut server = Endpoint::new(Role::Server, settings, settings.limits())?;
@@ -204,7 +205,7 @@ impl Endpoint {
     /// # let deliver = |from: &mut Endpoint, to: &mut Endpoint| -> Result<(), Box<dyn std::error::Error>> {
     /// #     let mut payload = [0; 1200];
     /// #     while let Some(made) = from.make_packet(&mut payload)? {
-    /// #         to.receive(made.number, &payload[..made.len])?;
+    /// #         assert_eq!(to.receive(made.number, &payload[..made.len])?, Received::Done);
     /// #     }
     /// #     Ok(())
     /// # };
@@ -213,7 +214,7 @@ impl Endpoint {
     /// deliver(&mut client, &mut server)?;
     /// let ack = server.make_ack(0, &mut payload)?.expect("an ACK is pending");
     /// assert!(!ack.is_ack_eliciting);
-    /// client.receive(ack.number, &payload[..ack.len])?;
+    /// assert_eq!(client.receive(ack.number, &payload[..ack.len])?, Received::Done);
     /// assert_eq!(client.next_outstanding(0), None);
     /// # Ok::<(), Box<dyn std::error::Error>>(())
     /// ```
@@ -236,7 +237,7 @@ impl Endpoint {
     /// send it is for the transport, which has the clock.
     ///
     /// ```
-    /// # use gotsavena::{Dir, Endpoint, Role, Settings};
+    /// # use gotsavena::{Dir, Endpoint, Received, Role, Settings};
     /// # let settings = Settings::default();
     /// # let mut client = Endpoint::new(Role::Client, settings, settings.limits())?;
     /// # let mut server = Endpoint::new(Role::Server, settings, settings.limits())?;
@@ -244,7 +245,7 @@ impl Endpoint {
     /// # let deliver = |from: &mut Endpoint, to: &mut Endpoint| -> Result<(), Box<dyn std::error::Error>> {
     /// #     let mut payload = [0; 1200];
     /// #     while let Some(made) = from.make_packet(&mut payload)? {
-    /// #         to.receive(made.number, &payload[..made.len])?;
+    /// #         assert_eq!(to.receive(made.number, &payload[..made.len])?, Received::Done);
     /// #     }
     /// #     Ok(())
     /// # };
@@ -377,7 +378,7 @@ impl Endpoint {
     /// Each call reads the payload once, and once more for each gap between the ranges that it passes.
     ///
     /// ```
-    /// # use gotsavena::{Dir, Endpoint, Role, Settings};
+    /// # use gotsavena::{Dir, Endpoint, Received, Role, Settings};
     /// # let settings = Settings::default();
     /// # let mut client = Endpoint::new(Role::Client, settings, settings.limits())?;
     /// # let mut server = Endpoint::new(Role::Server, settings, settings.limits())?;
@@ -385,7 +386,7 @@ impl Endpoint {
     /// let stream = client.open(Dir::Uni)?;
     /// client.write(stream, b"hello")?;
     /// let made = client.make_packet(&mut payload)?.expect("bytes are pending");
-    /// server.receive(made.number, &payload[..made.len])?;
+    /// assert_eq!(server.receive(made.number, &payload[..made.len])?, Received::Done);
     /// let ack = server.make_packet(&mut payload)?.expect("an ACK is pending");
     /// assert_eq!(client.next_newly_acked(&payload[..ack.len], 0), Some(made.number));
     /// # Ok::<(), Box<dyn std::error::Error>>(())

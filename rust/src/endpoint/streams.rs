@@ -40,7 +40,7 @@ impl Endpoint {
     /// [`Event::Opened`](crate::Event::Opened) instead.
     ///
     /// ```
-    /// # use gotsavena::{Dir, Endpoint, Role, Settings};
+    /// # use gotsavena::{Dir, Endpoint, Received, Role, Settings};
     /// # let settings = Settings::default();
     /// # let mut client = Endpoint::new(Role::Client, settings, settings.limits())?;
     /// # let mut server = Endpoint::new(Role::Server, settings, settings.limits())?;
@@ -48,7 +48,7 @@ impl Endpoint {
     /// # let deliver = |from: &mut Endpoint, to: &mut Endpoint| -> Result<(), Box<dyn std::error::Error>> {
     /// #     let mut payload = [0; 1200];
     /// #     while let Some(made) = from.make_packet(&mut payload)? {
-    /// #         to.receive(made.number, &payload[..made.len])?;
+    /// #         assert_eq!(to.receive(made.number, &payload[..made.len])?, Received::Done);
     /// #     }
     /// #     Ok(())
     /// # };
@@ -67,7 +67,7 @@ impl Endpoint {
     /// the other doesn't. `None` if there is none, or the connection is closed (RFC 9000, section 2.1).
     ///
     /// ```
-    /// # use gotsavena::{Dir, Endpoint, Role, Settings};
+    /// # use gotsavena::{Dir, Endpoint, Received, Role, Settings};
     /// # let settings = Settings::default();
     /// # let mut client = Endpoint::new(Role::Client, settings, settings.limits())?;
     /// # let mut server = Endpoint::new(Role::Server, settings, settings.limits())?;
@@ -75,7 +75,7 @@ impl Endpoint {
     /// # let deliver = |from: &mut Endpoint, to: &mut Endpoint| -> Result<(), Box<dyn std::error::Error>> {
     /// #     let mut payload = [0; 1200];
     /// #     while let Some(made) = from.make_packet(&mut payload)? {
-    /// #         to.receive(made.number, &payload[..made.len])?;
+    /// #         assert_eq!(to.receive(made.number, &payload[..made.len])?, Received::Done);
     /// #     }
     /// #     Ok(())
     /// # };
@@ -183,7 +183,7 @@ impl Endpoint {
     /// are given up, and none is sent again.
     ///
     /// ```
-    /// # use gotsavena::{Dir, Endpoint, Read, Role, Settings};
+    /// # use gotsavena::{Dir, Endpoint, Read, Received, Role, Settings};
     /// # let settings = Settings::default();
     /// # let mut client = Endpoint::new(Role::Client, settings, settings.limits())?;
     /// # let mut server = Endpoint::new(Role::Server, settings, settings.limits())?;
@@ -191,7 +191,7 @@ impl Endpoint {
     /// # let deliver = |from: &mut Endpoint, to: &mut Endpoint| -> Result<(), Box<dyn std::error::Error>> {
     /// #     let mut payload = [0; 1200];
     /// #     while let Some(made) = from.make_packet(&mut payload)? {
-    /// #         to.receive(made.number, &payload[..made.len])?;
+    /// #         assert_eq!(to.receive(made.number, &payload[..made.len])?, Received::Done);
     /// #     }
     /// #     Ok(())
     /// # };
@@ -220,7 +220,7 @@ impl Endpoint {
     /// If both sides send, the sending half here has to be over as well: finished or reset, or stopped by the peer, and that acknowledged.
     ///
     /// ```
-    /// # use gotsavena::{Dir, Endpoint, Read, Role, Settings};
+    /// # use gotsavena::{Dir, Endpoint, Read, Received, Role, Settings};
     /// # let settings = Settings::default();
     /// # let mut client = Endpoint::new(Role::Client, settings, settings.limits())?;
     /// # let mut server = Endpoint::new(Role::Server, settings, settings.limits())?;
@@ -228,7 +228,7 @@ impl Endpoint {
     /// # let deliver = |from: &mut Endpoint, to: &mut Endpoint| -> Result<(), Box<dyn std::error::Error>> {
     /// #     let mut payload = [0; 1200];
     /// #     while let Some(made) = from.make_packet(&mut payload)? {
-    /// #         to.receive(made.number, &payload[..made.len])?;
+    /// #         assert_eq!(to.receive(made.number, &payload[..made.len])?, Received::Done);
     /// #     }
     /// #     Ok(())
     /// # };
@@ -259,7 +259,7 @@ impl Endpoint {
     /// It shows all bytes up to the next gap. Consume what you used, and look again at the next `Readable`. It takes no memory.
     ///
     /// ```
-    /// use gotsavena::{Dir, Endpoint, Peek, Role, Settings};
+    /// use gotsavena::{Dir, Endpoint, Peek, Received, Role, Settings};
     ///
     /// let settings = Settings::default();
     /// let mut client = Endpoint::new(Role::Client, settings, settings.limits())?;
@@ -269,7 +269,7 @@ impl Endpoint {
     /// client.finish(stream)?;
     /// let mut payload = [0; 1200];
     /// let made = client.make_packet(&mut payload)?.expect("bytes are due");
-    /// server.receive(made.number, &payload[..made.len])?;
+    /// assert_eq!(server.receive(made.number, &payload[..made.len])?, Received::Done);
     ///
     /// let Peek::Bytes(front, back) = server.peek(stream)? else {
     ///     panic!("bytes came");
@@ -296,7 +296,7 @@ impl Endpoint {
     /// 9000, sections 2.2, 3.2 and 4.5).
     ///
     /// ```
-    /// use gotsavena::{Dir, Endpoint, Read, Role, Settings};
+    /// use gotsavena::{Dir, Endpoint, Read, Received, Role, Settings};
     ///
     /// let settings = Settings::default();
     /// let mut client = Endpoint::new(Role::Client, settings, settings.limits())?;
@@ -306,7 +306,7 @@ impl Endpoint {
     /// client.finish(stream)?;
     /// let mut payload = [0; 1200];
     /// let made = client.make_packet(&mut payload)?.expect("bytes are due");
-    /// server.receive(made.number, &payload[..made.len])?;
+    /// assert_eq!(server.receive(made.number, &payload[..made.len])?, Received::Done);
     ///
     /// assert_eq!(server.consume(stream, 8)?.read, Read::Bytes(8));
     /// let mut bytes = [0; 3];
@@ -332,7 +332,7 @@ impl Endpoint {
     /// `Reset` once all the bytes or the reset arrived: read on until then, so that the stream is over.
     ///
     /// ```
-    /// # use gotsavena::{Dir, Endpoint, Role, Settings};
+    /// # use gotsavena::{Dir, Endpoint, Received, Role, Settings};
     /// # let settings = Settings::default();
     /// # let mut client = Endpoint::new(Role::Client, settings, settings.limits())?;
     /// # let mut server = Endpoint::new(Role::Server, settings, settings.limits())?;
@@ -340,7 +340,7 @@ impl Endpoint {
     /// # let deliver = |from: &mut Endpoint, to: &mut Endpoint| -> Result<(), Box<dyn std::error::Error>> {
     /// #     let mut payload = [0; 1200];
     /// #     while let Some(made) = from.make_packet(&mut payload)? {
-    /// #         to.receive(made.number, &payload[..made.len])?;
+    /// #         assert_eq!(to.receive(made.number, &payload[..made.len])?, Received::Done);
     /// #     }
     /// #     Ok(())
     /// # };
@@ -374,14 +374,14 @@ impl Endpoint {
     /// [`Endpoint::next_ended`] finds the stream once it is over.
     ///
     /// ```
-    /// # use gotsavena::{Dir, Endpoint, Role, Settings};
+    /// # use gotsavena::{Dir, Endpoint, Received, Role, Settings};
     /// # let settings = Settings::small().uni_window(1000);
     /// # let end = |role| Endpoint::new(role, settings, settings.limits());
     /// # let (mut client, mut server) = (end(Role::Client)?, end(Role::Server)?);
     /// # let carry = |from: &mut Endpoint, to: &mut Endpoint| -> Result<(), Box<dyn std::error::Error>> {
     /// #     let mut payload = [0; 1200];
     /// #     if let Some(made) = from.make_packet(&mut payload)? {
-    /// #         to.receive(made.number, &payload[..made.len])?;
+    /// #         assert_eq!(to.receive(made.number, &payload[..made.len])?, Received::Done);
     /// #     }
     /// #     Ok(())
     /// # };
@@ -415,7 +415,7 @@ impl Endpoint {
     /// A loop over all of them goes on from the number after each; it costs a look at one word for 64 streams:
     ///
     /// ```
-    /// use gotsavena::{Dir, Endpoint, Read, Role, Settings, StreamId};
+    /// use gotsavena::{Dir, Endpoint, Read, Received, Role, Settings, StreamId};
     ///
     /// let settings = Settings::default();
     /// let mut client = Endpoint::new(Role::Client, settings, settings.limits())?;
@@ -426,7 +426,7 @@ impl Endpoint {
     ///
     /// let mut payload = [0; 1200];
     /// let made = client.make_packet(&mut payload)?.expect("bytes are due");
-    /// server.receive(made.number, &payload[..made.len])?;
+    /// assert_eq!(server.receive(made.number, &payload[..made.len])?, Received::Done);
     ///
     /// let mut bytes = [0; 16];
     /// let mut from = StreamId::new(0);
@@ -490,7 +490,7 @@ impl Endpoint {
     /// was acknowledged, or the reset (RFC 9000, section 3). `None` if there is none.
     ///
     /// ```
-    /// # use gotsavena::{Dir, Endpoint, Role, Settings};
+    /// # use gotsavena::{Dir, Endpoint, Received, Role, Settings};
     /// # let settings = Settings::default();
     /// # let mut client = Endpoint::new(Role::Client, settings, settings.limits())?;
     /// # let mut server = Endpoint::new(Role::Server, settings, settings.limits())?;
@@ -498,7 +498,7 @@ impl Endpoint {
     /// # let deliver = |from: &mut Endpoint, to: &mut Endpoint| -> Result<(), Box<dyn std::error::Error>> {
     /// #     let mut payload = [0; 1200];
     /// #     while let Some(made) = from.make_packet(&mut payload)? {
-    /// #         to.receive(made.number, &payload[..made.len])?;
+    /// #         assert_eq!(to.receive(made.number, &payload[..made.len])?, Received::Done);
     /// #     }
     /// #     Ok(())
     /// # };
@@ -579,7 +579,7 @@ impl Endpoint {
     /// the count written, all bytes are. Late ACKs move it even after a reset. `None` if the stream has no sending half here.
     ///
     /// ```
-    /// # use gotsavena::{Dir, Endpoint, Role, Settings};
+    /// # use gotsavena::{Dir, Endpoint, Received, Role, Settings};
     /// # let settings = Settings::default();
     /// # let mut client = Endpoint::new(Role::Client, settings, settings.limits())?;
     /// # let mut server = Endpoint::new(Role::Server, settings, settings.limits())?;
@@ -587,7 +587,7 @@ impl Endpoint {
     /// # let deliver = |from: &mut Endpoint, to: &mut Endpoint| -> Result<(), Box<dyn std::error::Error>> {
     /// #     let mut payload = [0; 1200];
     /// #     while let Some(made) = from.make_packet(&mut payload)? {
-    /// #         to.receive(made.number, &payload[..made.len])?;
+    /// #         assert_eq!(to.receive(made.number, &payload[..made.len])?, Received::Done);
     /// #     }
     /// #     Ok(())
     /// # };
@@ -629,7 +629,7 @@ impl Endpoint {
     /// whatever becomes of the half, so that an application that comes late still learns why (RFC 9000, section 3.5).
     ///
     /// ```
-    /// # use gotsavena::{Dir, Endpoint, Role, Settings};
+    /// # use gotsavena::{Dir, Endpoint, Received, Role, Settings};
     /// # let settings = Settings::default();
     /// # let mut client = Endpoint::new(Role::Client, settings, settings.limits())?;
     /// # let mut server = Endpoint::new(Role::Server, settings, settings.limits())?;
@@ -637,7 +637,7 @@ impl Endpoint {
     /// # let deliver = |from: &mut Endpoint, to: &mut Endpoint| -> Result<(), Box<dyn std::error::Error>> {
     /// #     let mut payload = [0; 1200];
     /// #     while let Some(made) = from.make_packet(&mut payload)? {
-    /// #         to.receive(made.number, &payload[..made.len])?;
+    /// #         assert_eq!(to.receive(made.number, &payload[..made.len])?, Received::Done);
     /// #     }
     /// #     Ok(())
     /// # };
@@ -675,7 +675,7 @@ impl Endpoint {
     /// The receiving half of a stream, to read from. Whether the stream has one is checked as it is used.
     ///
     /// ```
-    /// # use gotsavena::{Dir, Endpoint, Read, Role, Settings};
+    /// # use gotsavena::{Dir, Endpoint, Read, Received, Role, Settings};
     /// # let settings = Settings::default();
     /// # let mut client = Endpoint::new(Role::Client, settings, settings.limits())?;
     /// # let mut server = Endpoint::new(Role::Server, settings, settings.limits())?;
@@ -683,7 +683,7 @@ impl Endpoint {
     /// # let deliver = |from: &mut Endpoint, to: &mut Endpoint| -> Result<(), Box<dyn std::error::Error>> {
     /// #     let mut payload = [0; 1200];
     /// #     while let Some(made) = from.make_packet(&mut payload)? {
-    /// #         to.receive(made.number, &payload[..made.len])?;
+    /// #         assert_eq!(to.receive(made.number, &payload[..made.len])?, Received::Done);
     /// #     }
     /// #     Ok(())
     /// # };
