@@ -5,7 +5,8 @@ use crate::proved::qs_calls as calls;
 /// The credit that an endpoint grants, and the size of its sending buffers.
 ///
 /// [`Settings::default`] are those of a server: 100 streams of each direction at a time and 2^21 in all, windows of 256 KiB for each stream
-/// and of 1 MiB for the connection, and sending buffers of 256 KiB. What a peer can make such an endpoint hold stands in docs/LIMITS.md.
+/// and of 1 MiB for the connection, and sending buffers of 256 KiB. What a peer can make such an endpoint hold stands in the repository's
+/// `docs/LIMITS.md`.
 /// Change what differs by name, so that no number is taken for another:
 ///
 /// ```
