@@ -163,11 +163,10 @@ fn a_long_fat_path_is_used_up() {
 
 #[test]
 fn small_steps_need_narrower_windows() {
-    let took = transfer(16 << 20, Share::Eighth);
-    assert!(
-        took <= SENDING + SENDING / 10 + ROUND_TRIP,
-        "{took} nanoseconds"
-    );
+    // A seventh more than what is in flight in a round trip takes no longer than twice as much.
+    let took = transfer(14_300_000, Share::Eighth);
+    assert!(took <= 370_300_000, "{took} nanoseconds");
+    assert!(transfer(25_000_000, Share::Half) >= 370_200_000);
     // Exactly what is in flight in a round trip.
     let took = transfer(12_500_000, Share::Eighth);
     assert!(
@@ -237,13 +236,21 @@ fn growing_transfer(window: u64) -> (u64, u64) {
 #[test]
 fn a_window_that_grows_uses_up_a_long_fat_path() {
     let (took, window) = growing_transfer(1 << 18);
-    // Seven doublings, a round trip for each, to more than what is in flight in one. A window that stays takes a round trip for each
-    // 256 KiB: 14 seconds.
-    assert!(took <= SENDING + 8 * ROUND_TRIP, "{took} nanoseconds");
+    // Seven doublings, a round trip for each, to more than what is in flight in one: 0.87 seconds.
+    assert!(took <= 870_000_000, "{took} nanoseconds");
     assert!(
         (1 << 24..=Growing::MOST).contains(&window),
         "{window} bytes"
     );
+}
+
+#[test]
+fn a_narrow_window_that_stays_takes_long() {
+    // Of 256 KiB a round trip brings half, by default, and seven eighths where limits move by eighths.
+    for (step, seconds) in [(Share::Half, 25.4), (Share::Eighth, 14.4)] {
+        let took = transfer(1 << 18, step) as f64 / 1e9;
+        assert!((took - seconds).abs() < 0.05, "{took} seconds");
+    }
 }
 
 #[test]
