@@ -15,7 +15,7 @@
 //!     assert_eq!(client.write(stream, b"hello")?, 5);
 //!     client.finish(stream)?;
 //!     let (mut payload, mut bytes) = ([0; 1200], [0; 16]);
-//!     let lost = client.make_packet(&mut payload)?.expect("bytes are pending"); // never sent
+//!     let lost = client.make_packet(&mut payload)?.expect("bytes are pending"); // dropped by the network
 //!     client.declare_lost(lost.number)?;
 //!     while let Some(made) = client.make_packet(&mut payload)? {
 //!         // The network.

@@ -22,8 +22,8 @@ impl Endpoint {
     /// [`Endpoint::acked`] for its packets.
     ///
     /// `Took` and `Unchanged` say whether anything changed. A frame that came before, brings no new byte or raises no limit doesn't. Count
-    /// those against a peer that only makes work, except blocked frames, which an honest peer sends and which never change anything
-    /// ([`Taken::Unchanged`]). Acknowledge a packet only once each of its frames was taken: what you acknowledge is never sent again.
+    /// those against a peer that only makes work, except blocked frames, which an honest peer sends: of these only a STREAM_DATA_BLOCKED
+    /// that opens a stream changes anything ([`Taken::Unchanged`]). Acknowledge a packet only once each of its frames was taken: what you acknowledge is never sent again.
     ///
     /// ```
     /// use gotsavena::{Dir, Endpoint, Read, Role, Settings, Taken, frames};
