@@ -191,7 +191,7 @@ impl<T: Target + 'static> Attack<T> {
     pub const BY_ACKS: &'static [Attack<T>] = &[
         Attack {
             name: "acked-ranges",
-            what: "an ACK of so many ranges, of which it is told which packets it newly acknowledges",
+            what: "an ACK of so many ranges, and the packets that it newly acknowledges are reported",
             sizes: [150, 300, 600],
             setup: SERVER,
             ready: p::nothing,
@@ -200,7 +200,7 @@ impl<T: Target + 'static> Attack<T> {
         },
         Attack {
             name: "acked-padded",
-            what: "an ACK of so many packets beside padding up to 1,200 bytes, of which it is told which ones it newly acknowledges",
+            what: "an ACK of so many packets beside padding up to 1,200 bytes, and those that it newly acknowledges are reported",
             sizes: [250, 1000, 4000],
             setup: SERVER,
             ready: p::nothing,
@@ -266,7 +266,7 @@ impl<T: Target + 'static> Attack<T> {
         },
         Attack {
             name: "news-beside-limits",
-            what: "a PING, then its owner asks for news, while so many writers wait for their streams' credit",
+            what: "a PING, then the application asks for events, while so many writers wait for their streams' credit",
             sizes: [100, 640, 4096],
             setup: TIGHT_WITHIN,
             ready: p::waiting,
@@ -329,7 +329,7 @@ impl<T: Target + 'static> Attack<T> {
         },
         Attack {
             name: "stops-beside-blocked",
-            what: "of so many streams a hundred at a time are stopped, while a lower one is blocked and finds no room to tell",
+            what: "of so many streams a hundred at a time are stopped, while a lower one is blocked and finds no room to say so",
             sizes: [1000, 4000, 16_000],
             setup: TIGHT,
             ready: p::one_blocked,
