@@ -54,17 +54,17 @@ typedef enum gv_status {
   GV_OK = 0,                 /**< the call did what it says */
   GV_INVALID = 1,            /**< a null pointer, a number out of its range, or a struct's size; nothing changed */
   GV_NO_MEMORY = 2,          /**< memory was refused; the call may be made again */
-  GV_CONNECTION_CLOSED = 3,  /**< refused, since the connection is closed (section 10.2) */
+  GV_CONNECTION_CLOSED = 3,  /**< the connection is closed (section 10.2) */
   GV_NO_SUCH_STREAM = 4,     /**< the stream isn't open */
   GV_WRONG_DIRECTION = 5,    /**< the stream is unidirectional, and has no such half here (section 2.1) */
-  GV_SENDING_FINISHED = 6,   /**< refused, since the stream was finished here (section 3.1) */
-  GV_SENDING_RESET = 7,      /**< refused, since the stream was reset here, or stopped by the peer (sections 3.1 and 3.5) */
+  GV_SENDING_FINISHED = 6,   /**< the stream was finished here (section 3.1) */
+  GV_SENDING_RESET = 7,      /**< the stream was reset here, or stopped by the peer (sections 3.1 and 3.5) */
   GV_STREAM_LIMIT = 8,       /**< as many streams were opened as the peer permits (section 4.6) */
   GV_NUMBERS_EXHAUSTED = 9,  /**< the last packet number was used, and none may be used twice (section 12.3) */
   GV_NOT_OUTSTANDING = 10,   /**< no such packet is outstanding */
   GV_DUPLICATE = 11,         /**< the packet number was processed before (section 13.2.3) */
   GV_TOO_OLD = 12,           /**< the packet number is below those whose history is kept: it may be a repeat (section 13.2.3) */
-  GV_CLOSED_BY_PEER = 13,    /**< the peer closed: gv_peer_closed() has the code (section 10.2.2) */
+  GV_CLOSED_BY_PEER = 13,    /**< the peer closed the connection: gv_peer_closed() has the code (section 10.2.2) */
   GV_PROTOCOL_ERROR = 14,    /**< the peer broke a rule, and this endpoint is closed: gv_closing() says why (section 11.1) */
   GV_NONE = 15,              /**< there is none */
   GV_NOTHING_YET = 16,       /**< nothing to read yet (section 2.2) */
@@ -193,6 +193,9 @@ typedef enum gv_event_kind {
   GV_EVENT_STREAM_DATA_BLOCKED = 9, /**< the peer said that the stream's limit blocks it (sections 4.1 and 19.13) */
   GV_EVENT_STREAMS_BLOCKED = 10     /**< the peer said that the count of the direction blocks it (sections 4.6 and 19.14) */
 } gv_event_kind;
+
+/** The longest payload that gv_receive() takes, in bytes: no UDP datagram has more (section 14). */
+#define GV_MAX_PAYLOAD 65535
 
 /** With so many bytes of room gv_fill() puts something in whenever anything that it was asked for may go: it is the longest control frame. */
 #define GV_MIN_FILL 25
@@ -503,8 +506,9 @@ GV_API gv_status gv_set_grant(gv_endpoint *end, gv_dir dir, uint64_t streams);
  * @endcode
  * @{ */
 
-/** Processes the payload of a packet, all of its frames, under the packet's number, below 2^62 (sections 12.4 and 13.1). Only pass what
- * packet protection accepted: a number counts once, so a forged packet would block the true one. ::GV_OK: all frames took effect.
+/** Processes the payload of a packet, all of its frames, under the packet's number (sections 12.4 and 13.1). Only pass what packet
+ * protection accepted: a number counts once, so a forged packet would block the true one. ::GV_OK: all frames took effect. ::GV_INVALID
+ * also for a number of 2^62 or more, or a payload of more than GV_MAX_PAYLOAD bytes, before a byte of it is read and memory is asked for.
  * ::GV_DUPLICATE, ::GV_TOO_OLD: nothing changed. ::GV_NO_MEMORY: some first frames took effect, or none; the number isn't kept, so it isn't
  * acknowledged, and the same payload may come again. ::GV_CLOSED_BY_PEER: gv_peer_closed() has the peer's code. ::GV_PROTOCOL_ERROR: the
  * payload breaks a rule, and this endpoint is closed. gv_closing() says why, and gv_close_payload() writes the close. */
@@ -517,8 +521,8 @@ GV_API gv_status gv_receive(gv_endpoint *end, uint64_t number, const uint8_t *pa
  * endpoint. ::GV_NO_MEMORY: there is none for the numbers, and nothing changed; or it is that of gv_receive(), and then the same payload
  * may come again and names the others.
  *
- * The numbers wait in memory that the endpoint keeps, so that a call seldom needs more: at most 16 bytes for each from the lowest that was
- * outstanding to the highest, when these were farthest apart, or 512 bytes. */
+ * The numbers wait in memory of the endpoint until told was called: at most 16 bytes for each number from the lowest outstanding to the
+ * highest, or 512 bytes. Up to 4,096 bytes stay for the next call; more is given back as the call ends. */
 GV_API gv_status gv_receive_with_acks(gv_endpoint *end, uint64_t number, const uint8_t *payload, size_t len,
                                     void (*told)(void *context, uint64_t number), void *context);
 
@@ -830,7 +834,7 @@ GV_API gv_status gv_noted(const gv_endpoint *end, uint64_t *count);
 /** How many bytes of memory the buffers take in which bytes wait to be read, and those in which bytes wait to be acknowledged. It walks
  * over all streams that were opened, so ask from time to time. A peer can't make the receive buffers take more than four times the widest
  * window that the connection had, and 4,096 bytes for each receiving half that wasn't read to its end, reset or stopped. A sending buffer
- * takes at most twice the most that it was set to, or 4,096 bytes if nothing is kept (ours). */
+ * takes at most twice the most that it was set to, or 4,096 bytes if nothing is kept. */
 GV_API gv_status gv_held(const gv_endpoint *end, uint64_t *receiving, uint64_t *sending);
 
 /** The limit that the peer was granted on the sum of all streams' highest offsets (section 4.1). */
@@ -884,15 +888,18 @@ GV_API gv_status gv_noted_close(const gv_endpoint *end, gv_closer *by, gv_close_
  * @{ */
 
 /** The stream of the last STREAM frame in a payload, up to its end or its first fault. For round-robin, the next packet is
- * gv_make_packet_from() that one + 1 (section 2.3). ::GV_NONE: there is none. */
+ * gv_make_packet_from() that one + 1 (section 2.3). ::GV_NONE: there is none. The payload may have any length: this call takes time in
+ * proportion to it, and no memory. */
 GV_API gv_status gv_last_stream(const uint8_t *payload, size_t len, uint64_t *stream);
 
 /** Gives the frame at frames->place, and moves the place behind it (sections 12.4 and 19). ::GV_NONE: the payload is at its end.
  * ::GV_BAD_FRAME: no frame stands there, and *fault says why; a payload without a frame is one, too. Then the place stays, and the next
- * call returns the same. ::GV_INVALID also if the place lies past the payload's end. */
+ * call returns the same. ::GV_INVALID also if the place lies past the payload's end. The payload may have any length: each call takes time
+ * in proportion to the frame that it gives, and no memory. */
 GV_API gv_status gv_frames_next(gv_frames *frames, gv_frame *frame, gv_fault *fault);
 
-/** Gives the next range of an ACK, the highest first, and moves behind it (section 19.3.1). ::GV_NONE: there is none. */
+/** Gives the next range of an ACK, the highest first, and moves behind it (section 19.3.1). ::GV_NONE: there is none. An ACK may have any
+ * number of ranges: each call takes constant time, and no memory. */
 GV_API gv_status gv_ack_next(gv_acked *ranges, gv_range *range);
 
 /** Writes the frame at the front of out, and its length to *len: each number in its shortest spelling; a STREAM always with its length, so

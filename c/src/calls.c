@@ -145,34 +145,51 @@ gv_status gv_raise_limits(gv_endpoint *end, const gv_limits *peer) {
 
 /* Packets. */
 
+/* What no packet has is refused here, before the payload is looked through. */
+static bool is_packet(uint64_t number, const uint8_t *payload, size_t len) {
+  return number <= MOST_NUMBER && len <= GV_MAX_PAYLOAD && is_slice(payload, len);
+}
+
+/* What a payload's blocked frames say is noted once they took effect. */
+static gv_status received(gv_endpoint *end, gv_status status, const uint8_t *payload, size_t len, size_t blocked) {
+  if (status == GV_OK && blocked > 0) (void)look_through(end, payload, len, true);
+  give_back(end);
+  return status;
+}
+
 gv_status gv_receive(gv_endpoint *end, uint64_t number, const uint8_t *payload, size_t len) {
-  gvp_closing_info told = {0, 0, 0};
+  gvp_closing_info why = {0, 0, 0};
   size_t blocked;
-  if (end == NULL || !is_slice(payload, len)) return GV_INVALID;
+  if (end == NULL || !is_packet(number, payload, len)) return GV_INVALID;
   const uint8_t *from = read_from(payload, len);
   if (!expect_payload(end, from, len, &blocked)) return GV_NO_MEMORY;
-  gv_status status = leave(end, gvp_receive(enter(end), number, from, len, &told));
-  if (status == GV_OK && blocked > 0) (void)look_through(end, from, len, true);
-  return status;
+  gv_status status = leave(end, gvp_receive(enter(end), number, from, len, &why));
+  return received(end, status, from, len, blocked);
+}
+
+/* Makes room for each number from the lowest outstanding to the highest: as much as the library below wants, taken at once. */
+static bool has_room_for_acked(gv_endpoint *end) {
+  enum { FIRST_ROOM = 64 };
+  size_t room = FIRST_ROOM;
+  uint64_t least = 0, other = 0;
+  (void)leave(end, gvp_next_outstanding(enter(end), 0, &least));
+  while (leave(end, gvp_next_outstanding(enter(end), least + room, &other)) == GV_OK) room *= 2;
+  return has_room(end, &end->told, room);
 }
 
 gv_status gv_receive_with_acks(gv_endpoint *end, uint64_t number, const uint8_t *payload, size_t len,
                              void (*told)(void *context, uint64_t number), void *context) {
-  enum { FIRST_ROOM = 64 };
   gvp_closing_info why = {0, 0, 0};
   size_t count = 0, blocked;
-  numbers *all = NULL;
   gv_status status;
-  if (end == NULL || told == NULL || !is_slice(payload, len)) return GV_INVALID;
+  if (end == NULL || told == NULL || !is_packet(number, payload, len)) return GV_INVALID;
   const uint8_t *from = read_from(payload, len);
   if (!expect_payload(end, from, len, &blocked)) return GV_NO_MEMORY;
-  all = &end->told;
   do {
-    status = leave(end, gvp_receive_with_acks(enter(end), number, from, len, &why, all->at, all->room, &count));
-  } while (status == GV_NO_ROOM && has_room(end, all, all->room == 0 ? FIRST_ROOM : 2 * all->room));
-  for (size_t i = 0; i < count; i++) told(context, all->at[i]);
-  if (status == GV_OK && blocked > 0) (void)look_through(end, from, len, true);
-  return status == GV_NO_ROOM ? GV_NO_MEMORY : status;
+    status = leave(end, gvp_receive_with_acks(enter(end), number, from, len, &why, end->told.at, end->told.room, &count));
+  } while (status == GV_NO_ROOM && has_room_for_acked(end));
+  for (size_t i = 0; i < count; i++) told(context, end->told.at[i]);
+  return received(end, status == GV_NO_ROOM ? GV_NO_MEMORY : status, from, len, blocked);
 }
 
 static gv_status give_made(gv_made *to, gv_status status, gvp_made made) {
@@ -554,6 +571,7 @@ gv_status gv_take_frames(gv_endpoint *end, const gv_frame *frames, size_t count,
   if (given == NULL) return GV_NO_MEMORY;
   (void)take_given(given, frames, count, &ours);
   status = take_all(end, given, ours, taken);
+  give_back(end);
   end->memory.release(end->memory.context, given, ours * sizeof *given, alignof(gvp_given));
   return status;
 }

@@ -103,6 +103,13 @@ static inline void free_numbers(gv_endpoint *end, numbers *all) {
   all->room = 0;
 }
 
+/* A call ends: a list that took more than 4,096 bytes is given back, unless something in it still waits. */
+static inline void give_back(gv_endpoint *end) {
+  enum { MOST_KEPT = 4096 / sizeof(uint64_t) };
+  if (end->told.room > MOST_KEPT) free_numbers(end, &end->told);
+  if (end->said.room > MOST_KEPT && end->said_count == 0) free_numbers(end, &end->said);
+}
+
 /* Gives so many numbers a place, and drops those that had one; false if memory is refused, and then nothing changed. */
 static inline bool has_room(gv_endpoint *end, numbers *all, size_t wanted) {
   if (wanted <= all->room) return true;

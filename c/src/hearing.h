@@ -38,7 +38,6 @@ static bool says_blocked(const gvp_frame *frame) { return frame->kind >= GV_FRAM
 
 /* Notes what found no memory before. A stream whose length became known meanwhile waits for no limit, so it is left out. */
 static bool note_said(gv_endpoint *end) {
-  enum { FEW_SAID = 512 };
   gvp_frame frame;
   memset(&frame, 0, sizeof frame);
   frame.kind = GV_FRAME_STREAM_DATA_BLOCKED;
@@ -47,7 +46,7 @@ static bool note_said(gv_endpoint *end) {
     frame.stream = end->said.at[end->said_count - 1];
     if (leave(end, gvp_was_told(&end->heard, enter(end), &frame, none, 0)) == GV_NO_MEMORY) return false;
   }
-  if (end->said.room > FEW_SAID) free_numbers(end, &end->said);
+  give_back(end);
   return true;
 }
 

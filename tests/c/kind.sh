@@ -58,7 +58,8 @@ compile play "$tests/play.c"
 compile payloads "$root/c/fuzz/payloads.c"
 compile refused "$tests/refused.c"
 compile allocators "$tests/allocators.c" -pthread -Wl,--wrap=malloc -Wl,--wrap=realloc
-for name in pipe stack arguments handed events written lent refused allocators; do
+compile lengths "$tests/lengths.c" -Wl,--wrap=malloc -Wl,--wrap=calloc -Wl,--wrap=realloc
+for name in pipe stack arguments handed events written lent refused allocators lengths; do
   try "$name" timeout 300 "$room/$name"
 done
 like_rust() { "$room/settings" | cmp - <(cargo run -q --offline --release --manifest-path "$root/rust/Cargo.toml" -p gotsavena --example settings); }
