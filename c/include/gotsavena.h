@@ -649,7 +649,7 @@ GV_API gv_status gv_open(gv_endpoint *end, gv_dir dir, uint64_t *stream, uint64_
 /** Returns each stream that the peer opened, once (section 2.1). A stream may be used before it is accepted. ::GV_NONE: there is none. */
 GV_API gv_status gv_accept(gv_endpoint *end, uint64_t *stream);
 
-/** The same of one direction, for an application that handles the two apart: what this returned gv_accept() doesn't, and the other way
+/** As gv_accept(), of one direction, for an application that handles the two apart: what this returned gv_accept() doesn't, and the other way
  * round (section 2.1). ::GV_NONE: there is none. */
 GV_API gv_status gv_accept_of(gv_endpoint *end, gv_dir dir, uint64_t *stream);
 
@@ -711,13 +711,15 @@ GV_API gv_status gv_next_readable(const gv_endpoint *end, uint64_t from, uint64_
 
 /** Which stream wasn't finished, reset or stopped by the peer, and has room in its own buffer: a write of one byte is accepted, if there is
  * memory for it (sections 2.2 and 2.4). What holds all streams alike isn't looked at, since that would cost a look at each: with
- * within_credit or send_window ask gv_room() whether it takes a byte. */
+ * within_credit or send_window ask gv_room() whether it takes a byte. ::GV_NONE: there is none. */
 GV_API gv_status gv_next_writable(const gv_endpoint *end, uint64_t from, uint64_t *stream);
 
-/** Which stream has data or a FIN pending that its own limit permits, whatever the connection's limit says (sections 4.1 and 13.3). */
+/** Which stream has data or a FIN pending that its own limit permits, whatever the connection's limit says (sections 4.1 and 13.3). ::GV_NONE:
+ * there is none. */
 GV_API gv_status gv_next_sendable(const gv_endpoint *end, uint64_t from, uint64_t *stream);
 
-/** Which stream is over: its end or reset was read, and all that was sent is acknowledged, or the reset (section 3). */
+/** Which stream is over: its end or reset was read, and all that was sent is acknowledged, or the reset (section 3). ::GV_NONE: there is
+ * none. */
 GV_API gv_status gv_next_ended(const gv_endpoint *end, uint64_t from, uint64_t *stream);
 
 /** The state of a stream's sending half. ::GV_NO_SUCH_STREAM: the stream isn't open. ::GV_WRONG_DIRECTION: it has no such half here
@@ -840,7 +842,8 @@ GV_API gv_status gv_held(const gv_endpoint *end, uint64_t *receiving, uint64_t *
 /** The limit that the peer was granted on the sum of all streams' highest offsets (section 4.1). */
 GV_API gv_status gv_granted(const gv_endpoint *end, uint64_t *count);
 
-/** That sum: how much of its credit the peer used. Gaps count, so that a peer gains nothing by leaving some. */
+/** How much of its credit on the connection the peer used: the sum of all streams' highest offsets (section 4.1). Gaps count, so that a peer
+ * gains nothing by leaving some. */
 GV_API gv_status gv_spent(const gv_endpoint *end, uint64_t *count);
 
 /** @}

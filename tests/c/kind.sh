@@ -238,28 +238,9 @@ elsewhere() {
 }
 try 'in other folders' elsewhere "$room/other" ''
 try 'below a DESTDIR' elsewhere '' "$room/root"
-# The module for Python, where it was installed, which finds the library by pkg-config; and where variables name what pkg-config doesn't know.
-python=
-for word in python3 /usr/bin/python3; do
-  if [ -z "$python" ] && "$word" -c 'import cffi' 2>/dev/null; then python=$word; fi
-done
-if [ -n "$python" ]; then
-  # (by its standard input: of a file it would find the module beside it)
-  in_python() { env "${@:2}" PYTHONPATH="$usr/python" PYTHONDONTWRITEBYTECODE=1 timeout 300 "$python" - <"$1"; }
-  by_names=(PKG_CONFIG=false "GOTSAVENA_HEADER=$usr/include/gotsavena.h" "GOTSAVENA_LIBRARY=$usr/lib/libgotsavena.so.0")
-  says_hello_in_python() { [ "$(in_python "$root/c/python/hello.py" "$@")" = "hello $kind" ]; }
-  # It does what the example in C does, packet by packet.
-  stack_in_python() { in_python "$root/c/python/stack.py" "${by_names[@]}" >"$room/by-python" && "$room/stack" | cmp - "$room/by-python"; }
-  try 'install of the module for Python' make -s -C "$root/c" install-python "PYTHONDIR=$usr/python"
-  try 'the example in Python' says_hello_in_python "${by_names[@]}"
-  if has pkg-config 'the example in Python, by pkg-config'; then
-    try 'the example in Python, by pkg-config' says_hello_in_python -u GOTSAVENA_HEADER -u GOTSAVENA_LIBRARY "PKG_CONFIG_PATH=$usr/lib/pkgconfig"
-  fi
-  try 'the stack in Python' stack_in_python
-  try 'uninstall of the module for Python' make -s -C "$root/c" uninstall-python "PYTHONDIR=$usr/python"
-else
-  echo 'skipped: the examples in Python (no python3-cffi)'
-fi
+# The package for Python.
+# shellcheck source=tests/c/python.sh
+. "$tests/python.sh"
 try 'uninstall' make -s -C "$root/c" uninstall "PREFIX=$usr"
 nothing_left() { [ -z "$(find "$usr" ! -type d)" ]; }
 try 'nothing is left' nothing_left
