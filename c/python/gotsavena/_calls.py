@@ -220,7 +220,7 @@ class Calls:
         gotsavena.NoSuchStreamError: the stream isn't open
         """
         count = ffi.new("size_t *")
-        check(lib.gv_write(self._end, stream, given(data), len(data), count))
+        check(lib.gv_write(self._end, stream, *given(data), count))
         return count[0]
 
     def set_send_buffer(self, stream: int, size: int) -> None:
@@ -775,4 +775,4 @@ def last_stream(payload: Bytes) -> Optional[int]:
     (2, None)
     """
     stream = ffi.new("uint64_t *")
-    return stream[0] if found(lib.gv_last_stream(given(payload), len(payload), stream)) else None
+    return stream[0] if found(lib.gv_last_stream(*given(payload), stream)) else None

@@ -137,7 +137,7 @@ class Endpoint(Calls):
         >>> server.receive(made.number, made.payload), server.receive(made.number, made.payload)
         (True, False)
         """
-        return self._was_received(lib.gv_receive(self._end, number, given(payload), len(payload)))
+        return self._was_received(lib.gv_receive(self._end, number, *given(payload)))
 
     def receive_with_acks(self, number: int, payload: Bytes, told: Callable[[int], object]) -> bool:
         """As receive(), and told is called for the number of each packet that the payload newly acknowledged, once, in
@@ -155,7 +155,7 @@ class Endpoint(Calls):
         """
         numbers: List[int] = []
         note = ffi.callback("void (void *, uint64_t)", lambda _context, acked: numbers.append(acked))
-        status = lib.gv_receive_with_acks(self._end, number, given(payload), len(payload), note, ffi.NULL)
+        status = lib.gv_receive_with_acks(self._end, number, *given(payload), note, ffi.NULL)
         for acked in numbers:
             told(acked)
         return self._was_received(status)

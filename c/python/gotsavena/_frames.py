@@ -51,7 +51,7 @@ class Frame(FrameFields):
         [(7, 9), (2, 3)]
         """
         kept = given(self.data)
-        left, pair = ffi.new("gv_acked *", (kept, len(self.data), self.largest)), ffi.new("gv_range *")
+        left, pair = ffi.new("gv_acked *", (*kept, self.largest)), ffi.new("gv_range *")
         while found(lib.gv_ack_next(left, pair)):
             yield Range.of(pair)
 
@@ -62,8 +62,8 @@ def struct_of(frame: Frame) -> Tuple[Any, Any]:
     kept = given(fields.pop("data")), given(fields.pop("token"))
     for name, value in fields.items():
         setattr(raw, name, value)
-    raw.bytes, raw.len = kept[0], len(frame.data)
-    raw.token = kept[1] if frame.token else ffi.NULL
+    raw.bytes, raw.len = kept[0]
+    raw.token = kept[1][0] if frame.token else ffi.NULL
     return raw, kept
 
 
@@ -78,7 +78,7 @@ def frames(payload: Bytes) -> Iterator[Frame]:
     gotsavena.BadFrameError: no frame stands there
     """
     kept = given(payload)
-    walk, raw, fault = ffi.new("gv_frames *", (kept, len(payload), 0)), sized("gv_frame"), sized("gv_fault")
+    walk, raw, fault = ffi.new("gv_frames *", (*kept, 0)), sized("gv_frame"), sized("gv_fault")
     while True:
         status = lib.gv_frames_next(walk, raw, fault)
         if status == Status.BAD_FRAME:

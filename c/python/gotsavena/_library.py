@@ -7,7 +7,7 @@ from __future__ import annotations
 
 import os
 import subprocess
-from typing import Any, Union
+from typing import Any, Tuple, Union
 
 from cffi import FFI
 
@@ -114,9 +114,10 @@ def struct(kind: str, value: Any) -> Any:
     return raw
 
 
-def given(data: Bytes) -> Any:
-    """The address of bytes."""
-    return ffi.from_buffer("uint8_t[]", data)
+def given(data: Bytes) -> Tuple[Any, int]:
+    """The address of bytes, and how many they are."""
+    at = ffi.from_buffer("uint8_t[]", data)
+    return at, len(at)
 
 
 def copied(at: Any, count: int) -> bytes:
