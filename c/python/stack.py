@@ -6,8 +6,8 @@ something to read or to write.
 
 from collections import namedtuple
 
-from gotsavena import BadFrameError, Dir, Endpoint, EventKind, FaultKind, Frame, FrameKind, NotGivenError, ProtocolError, Role, Settings, Taken
-from gotsavena import frames, put_ack, token_and
+from gotsavena import BadFrameError, Dir, Endpoint, EventKind, FaultKind, Frame, FrameKind, InvalidError, NotGivenError, ProtocolError
+from gotsavena import Role, Settings, Taken, frames, put_ack, token_and
 
 ROOM = 1200
 MOST = 32  # how many packets may be under way, and how many ranges an ACK has
@@ -173,6 +173,7 @@ def ask_the_rest():
     assert issued == bytes([0x18, 3, 1, 2]) + b"id" + bytes(range(16)), issued
     read = next(frames(issued))
     assert (read.data, read.token, read.sequence, read.put()) == (b"id", bytes(range(16)), 3, issued)
+    refuse(Frame(FrameKind.NEW_CONNECTION_ID, data=b"id", token=bytes(15)).put, InvalidError)
     fault = refuse(lambda: list(frames(b"\x01\x40")), BadFrameError).fault
     assert (fault.kind, fault.code, fault.place) == (FaultKind.TRUNCATED, 7, 1), fault
     # DATA_BLOCKED of 5 at a limit that didn't rise: an event, from take_frames at once, from receive where that is chosen.

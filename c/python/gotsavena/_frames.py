@@ -58,6 +58,8 @@ class Frame(FrameFields):
 
 def struct_of(frame: Frame) -> Tuple[Any, Any]:
     """The struct of C, and what has to be kept as long as that is used."""
+    if len(frame.token) not in (0, _TOKEN_LEN):
+        raise refusal(Status.INVALID)
     fields, raw = frame._asdict(), sized("gv_frame")
     kept = given(fields.pop("data")), given(fields.pop("token"))
     for name, value in fields.items():
