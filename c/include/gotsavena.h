@@ -194,7 +194,7 @@ typedef enum gv_event_kind {
   GV_EVENT_STREAMS_BLOCKED = 10     /**< the peer said that the count of the direction blocks it (sections 4.6 and 19.14) */
 } gv_event_kind;
 
-/** The longest payload that gv_receive() takes, in bytes: no UDP datagram has more (section 14). */
+/** The longest payload that gv_receive() takes, in bytes: no UDP datagram has more (section 18.2). */
 #define GV_MAX_PAYLOAD 65535
 
 /** With so many bytes of room gv_fill() puts something in whenever anything that it was asked for may go: it is the longest control frame. */
