@@ -35,7 +35,7 @@ use Rattle.qs_runs.proofs.Changes.{acked_written}
 use Rattle.qs_runs.proofs.Receives.{none_asked, took_effect}
 use Rattle.qs_rest.proofs.Effects.{later_told}
 use Rattle.qs_rest.specs.Invariant.{IsAllAcked, IsStopTaken, ItemTaken}
-use Rattle.qs_rest.proofs.Streams.{missing_is}
+use Rattle.qs_rest.proofs.OneStream.{missing_is}
 
 -- What a call keeps
 

@@ -1,6 +1,7 @@
 -- At rest no limit holds a stream back, and what was written was read.
-use Rattle.std.proofs.Common.{◌≡◌, ℕ, ◌<◌, ◌≤◌, true, false, length, Option, Some, None, refl, sym, ap, ◌∙◌, subst, arith, inl, inr}
+use Rattle.std.proofs.Common.{◌≡◌, ℕ, ◌<◌, ◌≤◌, true, false, length, take, Option, Some, None, refl, sym, ap, ◌∙◌, subst, arith, inl, inr}
 use Rattle.std.proofs.lemmas.Bool.{cases_lt, cond_both}
+use Rattle.std.proofs.Math.Seq.{take-length}
 use Rattle.qs_ranges.specs.Numbers.{MAX_VARINT}
 use Rattle.qs_wire.specs.declared.stream_id.Role.{Role}
 use Rattle.qs_recv.specs.Lane.{RecvLane, taken, next_limit}
@@ -10,21 +11,20 @@ use Rattle.qs_calls.specs.declared.event.Side.{Side}
 use Rattle.qs_machine.specs.Ends.{is_uni, is_own_by, first_window_by, first_window}
 use Rattle.qs_machine.specs.Credit.{all_sent, all_taken}
 use Rattle.qs_machine.proofs.CallsSound.{WindowsFit, windows_fit}
-use Rattle.qs_runs.specs.Logs.{History, other, read, written}
+use Rattle.qs_runs.specs.Logs.{History, other, stopped, read, written}
 use Rattle.qs_runs.specs.Worlds.{World, end_of}
 use Rattle.qs_runs.specs.Pasts.{past}
 use Rattle.qs_runs.specs.Clauses.{sending, receiving}
-use Rattle.qs_runs.specs.Invariant.{WorldOk, RecvSlot}
-use Rattle.qs_runs.proofs.Lists.{same_length_prefix}
+use Rattle.qs_runs.specs.Invariant.{WorldOk}
 use Rattle.qs_runs.proofs.Runs.{run_keeps}
-use Rattle.qs_runs.proofs.Clauses.{prefix}
 use Rattle.qs_rest.specs.Invariant.{RestOk}
 use Rattle.qs_rest.specs.Rest.{AtRest}
 use Rattle.qs_rest.specs.Resting.{AtEachRest, OnceLimitsKnown, KnowsFirstLimits, HasRoom, IsReadAtBoth, IsAhead, HasCreditAhead, AllIsDelivered}
 use Rattle.qs_rest.proofs.Runs.{every_run_keeps}
 use Rattle.qs_rest.proofs.Telling.{full, ahead, all_or_limit, end_acked}
 use Rattle.qs_rest.proofs.Resting.{limits_known, window_known}
-use Rattle.qs_rest.proofs.Streams.{lawful, sender_ok, reader_ok, no_reset_known, acked_sent, end_sent, sent_alone, taken_sent, all_was_taken, is_read}
+use Rattle.qs_rest.proofs.OneStream.{lawful, sender_ok, no_reset_known, acked_sent, end_sent, sent_is_read}
+use Rattle.qs_rest.proofs.Streams.{no_news, acked, sent_alone, taken_sent, all_was_taken, is_read}
 
 -- each window is at least one byte
 some_window : (role : Role) (s : Settings) (n : ℕ) → WindowsFit s → 1 ≤ first_window_by role s n
@@ -86,7 +86,7 @@ module _ (a b : Settings) (h : History) (w : World) (ok : WorldOk a b h w) (keep
     below_limit more blocked = by (receiving w s n) refl
       where
         at_limit : l.sent_end ≤ l.limit
-        at_limit = (sender_ok a b h w ok keeps rest s n l at).sent_limit
+        at_limit = (sender_ok a b h w ok s n l at).sent_limit
 
         raised : (r : RecvLane) → receiving w s n ≡ Some r → r.final_size ≡ None → ⊥
         raised r is e =
@@ -94,14 +94,14 @@ module _ (a b : Settings) (h : History) (w : World) (ok : WorldOk a b h w) (keep
             let paid : taken r ≡ l.sent_end = taken_sent a b h w ok keeps rest s n l r at is in
             let same : taken r ≡ r.limit = omega (arith, known, paid, blocked, at_limit) in
             let settled : next_limit r.limit r.limit r.window r.share ≡ r.limit = subst (λ t. next_limit r.limit t r.window r.share ≡ r.limit) same ((keeps (other s)).limits.streams n r is e) in
-            let top : MAX_VARINT ≤ r.limit = full r.limit r.window r.share (lawful a b h w ok keeps rest s n r is).some_window settled in
+            let top : MAX_VARINT ≤ r.limit = full r.limit r.window r.share (lawful a b h w ok s n r is).some_window settled in
             let small : l.written ≤ MAX_VARINT = ((keeps s).sends n l at).small in
             omega (arith, top, small, more, known, blocked)
 
         sized : (r : RecvLane) → receiving w s n ≡ Some r → (o : Option ℕ) → r.final_size ≡ o → ⊥
         sized r is None e = raised r is e
         sized r is (Some size) e =
-            let whole = (end_sent a b h w ok keeps rest s n l r size at is e (no_reset_known a b h w ok keeps rest s n l r at is none)).1 in
+            let whole = (end_sent a b h w ok s n l r size at is e (no_reset_known a b h w ok s n l r at is none)).1 in
             omega (arith, whole, more)
 
         by : (y : Option RecvLane) → receiving w s n ≡ y → ⊥
@@ -110,32 +110,18 @@ module _ (a b : Settings) (h : History) (w : World) (ok : WorldOk a b h w) (keep
 
     pub all_is_sent : HasRoom w s → l.sent_end ≡ l.written
     all_is_sent room =
-        elim (all_or_limit (end_of w s) (rest s) n l at none (λ q acked. acked_sent a b h w ok keeps rest s n l q at acked)) [
-          | inl whole ↦ omega (arith, whole, (sender_ok a b h w ok keeps rest s n l at).sent_written)
+        elim (all_or_limit (end_of w s) (rest s) n l at none (λ q acked. acked_sent a b h w ok s n l q at acked)) [
+          | inl whole ↦ omega (arith, whole, (sender_ok a b h w ok s n l at).sent_written)
           | inr held ↦ elim held [
             | inl own ↦ absurd (below_limit own.0 own.1)
             | inr conn ↦ absurd (omega (arith, conn, has_credit room))
           ]
         ]
 
-    pub all_is_read : HasRoom w s → (past (other s) h).stopped n ≡ false → read (other s) n h ≡ written s n h
-    all_is_read room going = same_length_prefix _ _ (prefix a b h w ok s n).prefix (by (receiving w s n) refl ∙ sym count)
-      where
-        count : length (written s n h) ≡ l.written
-        count = (sender_ok a b h w ok keeps rest s n l at).count
-
-        by : (y : Option RecvLane) → receiving w s n ≡ y → length (read (other s) n h) ≡ l.written
-        by None e =
-            let slot = subst (RecvSlot (past (other s) h) n (first_window (end_of w (other s)) n)) e ((ok.ends (other s)).recvs n) in
-            let nothing : length (read (other s) n h) ≡ 0 = ap length slot.no_bytes in
-            omega (arith, nothing, sent_alone a b h w ok keeps rest s n l at e, all_is_sent room)
-        by (Some r) e =
-            let half = reader_ok a b h w ok keeps rest s n r e in
-            let given : length (read (other s) n h) ≡ r.arrived.read_count = half.count in
-            let no_stop : r.stop_code ≡ None = half.not_stopped going in
-            let no_reset : r.reset_code ≡ None = no_reset_known a b h w ok keeps rest s n l r at e none in
-            let took : taken r ≡ r.arrived.read_count = rw (no_reset, no_stop) refl in
-            omega (arith, given, took, taken_sent a b h w ok keeps rest s n l r at e, all_is_sent room)
+    pub all_is_read : HasRoom w s → stopped (other s) n h ≡ false → read (other s) n h ≡ written s n h
+    all_is_read room going =
+        let count : length (written s n h) ≡ l.sent_end = (sender_ok a b h w ok s n l at).count ∙ sym (all_is_sent room) in
+        sent_is_read a b h w ok s n l at none (acked a b h w ok keeps rest s n l at none) (no_news a b h w ok keeps rest s n) going ∙ ap (λ k. take k (written s n h)) (sym count) ∙ take-length (written s n h)
 
     pub all_has_ended : HasRoom w s → l.finished ≡ true → IsReadAtBoth w s n
     all_has_ended room finished =

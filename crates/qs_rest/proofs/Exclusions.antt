@@ -108,7 +108,7 @@ is_there r = refl
 waiting : TellsNoNews (read_answer fresh 1) fresh
 waiting = subst (λ b. TellsNoNews (if b then Bytes (length (front_of fresh.arrived 1)) else Wait) fresh) (sym (set.contains-empty nat_cmp 0)) tt
 
-first_came : set.contains three_came.arrived.received 0 ≡ true
+pub first_came : set.contains three_came.arrived.received 0 ≡ true
 first_came = contains-with_range set.empty 0 3 0 ∙ go
   where
     go : (set.contains {R = nat_cmp} set.empty 0 || is_within 0 3 0) ≡ true

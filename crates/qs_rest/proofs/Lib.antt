@@ -7,9 +7,11 @@ pub mod Telling
 pub mod Runs
 pub mod FirstLimits
 pub mod Resting
+pub mod OneStream
 pub mod Streams
 pub mod Delivered
 pub mod Exclusions
+pub mod ExclusionsOneStream
 pub mod Idle
 pub mod Again
 pub mod Repeating

@@ -1,37 +1,33 @@
 -- Streams of two ends at rest: all credit is paid back, and each reset and each stop came to its end.
 use Rattle.std.proofs.Common.{◌≡◌, ℕ, zero, suc, ◌+◌, ◌<◌, ◌≤◌, Bool, true, false, ◌⊎◌, List, length, Option, Some, None, is_some, unwrap_or, refl, sym, ap, ◌∙◌, subst, arith, inl, inr}
 use Rattle.std.proofs.lemmas.Option.{none-some, same_Some}
-use Rattle.std.proofs.lemmas.Bool.{and_from, eq-eqb, true≢false, false≢true}
+use Rattle.std.proofs.lemmas.Bool.{true≢false, false≢true}
 use Rattle.std.specs.FinMap as fmap
 use Rattle.std.specs.FinSet as set
-use Rattle.qs_ranges.specs.Numbers.{NumberSet, missing_from, end_of as set_end}
-use Rattle.qs_ranges.proofs.Sets.{covers-is, covers-of, missing_from-of}
+use Rattle.qs_ranges.specs.Numbers.{end_of as set_end}
+use Rattle.qs_ranges.proofs.Sets.{covers-is}
 use Rattle.qs_recv.specs.Lane.{RecvLane, highest, taken, is_whole, whole_to, read_answer, state as recv_state}
-use Rattle.qs_recv.specs.Lawful.{IsLawful}
 use Rattle.qs_recv.specs.declared.half.RecvState.TheVariants.{DataRead, ResetRead}
 use Rattle.qs_recv.proofs.LawfulLaws.{taken_within}
-use Rattle.qs_send.specs.Lane.{SendLane, unacked_from, is_whole as send_whole, state as send_state}
+use Rattle.qs_send.specs.Lane.{SendLane}
 use Rattle.qs_send.specs.declared.parts.Reset.{Reset}
-use Rattle.qs_send.specs.declared.parts.SendState.TheVariants.{DataRecvd}
 use Rattle.qs_send.specs.declared.piece.Item.TheVariants.{ResetStream, StopSending}
 use Rattle.qs_calls.specs.declared.settings.Settings.{Settings}
 use Rattle.qs_calls.specs.declared.event.Side.{Side}
-use Rattle.qs_machine.specs.Ends.{first_send_limit, first_window}
 use Rattle.qs_machine.specs.Credit.{spent, all_taken, all_stored, all_sent}
-use Rattle.qs_machine.specs.Standing.{HasLawfulLane}
-use Rattle.qs_machine.specs.Seen.{Stream, Control}
+use Rattle.qs_machine.specs.Seen.{Control}
 use Rattle.qs_machine.proofs.Counts.{stored_and_taken}
 use Rattle.qs_machine.proofs.TableLaws.{value, total_le, total_both}
 use Rattle.qs_machine.proofs.Pieces.{All_at}
 use Rattle.qs_runs.specs.Logs.{History, other, taken as taken_by}
 use Rattle.qs_runs.specs.Worlds.{World, end_of}
-use Rattle.qs_runs.specs.Pasts.{past, Tells}
-use Rattle.qs_runs.specs.Clauses.{HasArrived, sending, receiving}
-use Rattle.qs_runs.specs.Invariant.{WorldOk, SendOk, SendSlot, RecvOk, RecvSlot, FrameTaken}
-use Rattle.qs_runs.proofs.Members.{end-le, below-end}
-use Rattle.qs_runs.proofs.Histories.{theirs_mine, confirmed_taken}
+use Rattle.qs_runs.specs.Pasts.{past}
+use Rattle.qs_runs.specs.Clauses.{sending, receiving}
+use Rattle.qs_runs.specs.Invariant.{WorldOk, FrameTaken}
+use Rattle.qs_runs.proofs.Members.{end-le}
+use Rattle.qs_runs.proofs.Histories.{confirmed_taken}
 use Rattle.qs_runs.proofs.Runs.{run_keeps}
-use Rattle.qs_runs.proofs.Clauses.{received_is_below_sent, arrived_was_taken, acked_has_arrived, final_size_is_declared, reset_code_is_the_senders}
+use Rattle.qs_runs.proofs.Clauses.{received_is_below_sent, final_size_is_declared, reset_code_is_the_senders}
 use Rattle.qs_rest.specs.Invariant.{IsAllAcked, RestOk}
 use Rattle.qs_rest.specs.Rest.{TellsNoNews, AtRest}
 use Rattle.qs_rest.specs.Resting.{AtEachRest, CreditIsWhole, IsResetAtBoth, IsReadAtBoth, IsLeftToOwner, ResetsAreFinal}
@@ -39,84 +35,26 @@ use Rattle.qs_rest.proofs.Runs.{every_run_keeps}
 use Rattle.qs_rest.proofs.Telling.{caught_up, end_told, reset_told, sent_acked, end_acked}
 use Rattle.qs_rest.proofs.Resting.{items_acked, taken as item_taken, taken_here}
 use Rattle.qs_rest.proofs.Effects.{some_of}
-
-pub missing_is : (t : NumberSet) (k : ℕ) → ((q : ℕ) → q < k → set.contains t q ≡ true) → ((q : ℕ) → set.contains t q ≡ true → q < k) → missing_from t 0 ≡ k
-missing_is t k all below = sym (missing_from-of t 0 k (record { from = omega arith; missing = go (set.contains t k) refl; all_before = λ q from lt. all q lt }))
-  where
-    go : (b : Bool) → set.contains t k ≡ b → set.contains t k ≡ false
-    go true is = (let lt : k < k = below k is in absurd (omega arith))
-    go false is = is
+use Rattle.qs_rest.proofs.OneStream.{lawful, sender_ok, acked_sent, end_sent, size_sent, none_sent, highest_is, taken_is, read_at_both}
 
 known_size : (o : Option RecvLane) (size : ℕ) (r : RecvLane) → (t : RecvLane) × (o ≡ Some t) × (t.final_size ≡ Some size) → o ≡ Some r → r.final_size ≡ Some size
 known_size o size r (t, there, final) at = (let same : t ≡ r = same_Some t r (sym there ∙ at) in rw same at final)
 
 module _ (a b : Settings) (h : History) (w : World) (ok : WorldOk a b h w) (keeps : (s : Side) → RestOk (past s h) (end_of w s)) (rest : (s : Side) → AtRest (end_of w s)) (s : Side) (n : ℕ) where
-  pub lawful : (r : RecvLane) → receiving w s n ≡ Some r → IsLawful r
-  lawful r is = (subst (HasLawfulLane (end_of w (other s)).role (end_of w (other s)).settings n) is ((ok.sound (other s)).0.lanes n)).0
-
   pub no_news : (r : RecvLane) → receiving w s n ≡ Some r → TellsNoNews (read_answer r 1) r
   no_news r is = (rest (other s)).read_out n r is
-
-  pub sender_ok : (l : SendLane) → sending w s n ≡ Some l → SendOk (past s h) n (first_send_limit (end_of w s) n) l
-  sender_ok l at = subst (SendSlot (past s h) n (first_send_limit (end_of w s) n)) at ((ok.ends s).sends n)
-
-  pub reader_ok : (r : RecvLane) → receiving w s n ≡ Some r → RecvOk (past (other s) h) n (first_window (end_of w (other s)) n) r
-  reader_ok r is = subst (RecvSlot (past (other s) h) n (first_window (end_of w (other s)) n)) is ((ok.ends (other s)).recvs n)
-
-  -- what is acknowledged was sent
-  pub acked_sent : (l : SendLane) (q : ℕ) → sending w s n ≡ Some l → set.contains l.acked q ≡ true → q < l.sent_end
-  acked_sent l q at acked =
-      let (k, offset, bytes, fin, holds, low, high, ack) = (sender_ok l at).acked q acked in
-      omega (arith, high, ((sender_ok l at).told offset bytes fin (k, holds)).below)
-
-  -- where a final size is known without a reset, the owner finished, and all was sent
-  pub end_sent : (l : SendLane) (r : RecvLane) (size : ℕ) → sending w s n ≡ Some l → receiving w s n ≡ Some r → r.final_size ≡ Some size → r.reset_code ≡ None → (l.finished ≡ true) × (l.sent_end ≡ l.written)
-  end_sent l r size at is final none =
-      elim ((reader_ok r is).final size final) [
-        | inl (offset, bytes, t, same) ↦ (let tells = subst (λ x. Tells x (Stream n offset bytes true)) (theirs_mine s h) t in (sender_ok l at).end (((sender_ok l at).told offset bytes true tells).end refl).0)
-        | inr (code, known, t) ↦ absurd (none-some code (sym none ∙ known))
-      ]
 
   -- all that was written was sent, where all of it is acknowledged
   whole_sent : (l : SendLane) → sending w s n ≡ Some l → IsAllAcked l → l.sent_end ≡ l.written
   whole_sent l at all = go l.written refl
     where
       go : (k : ℕ) → l.written ≡ k → l.sent_end ≡ l.written
-      go zero e = omega (arith, e, (sender_ok l at).sent_written)
-      go (suc k) e = omega (arith, e, (sender_ok l at).sent_written, acked_sent l k at (all.offsets k (omega (arith, e))))
+      go zero e = omega (arith, e, (sender_ok a b h w ok s n l at).sent_written)
+      go (suc k) e = omega (arith, e, (sender_ok a b h w ok s n l at).sent_written, acked_sent a b h w ok s n l k at (all.offsets k (omega (arith, e))))
 
-  -- where the sender didn't reset, the receiver knows no reset
-  pub no_reset_known : (l : SendLane) (r : RecvLane) → sending w s n ≡ Some l → receiving w s n ≡ Some r → l.was_reset ≡ None → r.reset_code ≡ None
-  no_reset_known l r at is none = go r.reset_code refl
-    where
-      go : (o : Option ℕ) → r.reset_code ≡ o → r.reset_code ≡ None
-      go None e = e
-      go (Some code) e =
-          let (m, size, there, reset) = reset_code_is_the_senders a b h w ok s n r code is e in
-          let same : m ≡ l = same_Some m l (sym there ∙ at) in
-          let here : l.was_reset ≡ Some (record { code = code; size = size }) = rw same at reset in
-          absurd (none-some _ (sym none ∙ here))
-
-  -- an offset that is acknowledged came
-  pub acked_came : (l : SendLane) (q : ℕ) → sending w s n ≡ Some l → l.was_reset ≡ None → set.contains l.acked q ≡ true → (r : RecvLane) × (receiving w s n ≡ Some r) × (set.contains r.arrived.received q ≡ true)
-  acked_came l q at none acked =
-      let (offset, bytes, fin, arrived, low, high) = (acked_has_arrived a b h w ok s n).offsets l q at acked in
-      let (r, is, took, fins) = arrived_was_taken a b h w ok s n offset bytes fin arrived in
-      elim took [
-        | inl all ↦ (r, is, all q low high)
-        | inr reset ↦ absurd (true≢false (sym reset ∙ ap is_some (no_reset_known l r at is none)))
-      ]
-
-  -- each offset that was sent came
-  pub sent_came : (l : SendLane) → sending w s n ≡ Some l → l.was_reset ≡ None → (q : ℕ) → q < l.sent_end → (r : RecvLane) × (receiving w s n ≡ Some r) × (set.contains r.arrived.received q ≡ true)
-  sent_came l at none q lt =
-      acked_came l q at none (sent_acked (end_of w s) (rest s) n l at none (sender_ok l at).sent_written (sender_ok l at).sent_limit q lt)
-
-  pub came_at : (l : SendLane) (r : RecvLane) → sending w s n ≡ Some l → receiving w s n ≡ Some r → l.was_reset ≡ None → (q : ℕ) → q < l.sent_end → set.contains r.arrived.received q ≡ true
-  came_at l r at is none q lt =
-      let (m, there, has_it) = sent_came l at none q lt in
-      let same : m ≡ r = same_Some m r (sym there ∙ is) in
-      rw same at has_it
+  -- of a half that wasn't reset all that was sent is acknowledged
+  pub acked : (l : SendLane) → sending w s n ≡ Some l → l.was_reset ≡ None → (q : ℕ) → q < l.sent_end → set.contains l.acked q ≡ true
+  acked l at none = sent_acked (end_of w s) (rest s) n l at none (sender_ok a b h w ok s n l at).sent_written (sender_ok a b h w ok s n l at).sent_limit
 
   -- a reset came, or all data had come before
   pub reset_came : (l : SendLane) (reset : Reset) → sending w s n ≡ Some l → l.was_reset ≡ Some reset →
@@ -133,34 +71,15 @@ module _ (a b : Settings) (h : History) (w : World) (ok : WorldOk a b h w) (keep
 
   -- the highest offset is the sent end
   pub highest_sent : (l : SendLane) (r : RecvLane) → sending w s n ≡ Some l → receiving w s n ≡ Some r → highest r ≡ l.sent_end
-  highest_sent l r at is = by r.final_size refl l.was_reset refl
+  highest_sent l r at is = by l.was_reset refl
     where
-      low : l.was_reset ≡ None → (k : ℕ) → l.sent_end ≡ k → k ≤ set_end r.arrived.received
-      low none zero e = omega arith
-      low none (suc k) e = below-end r.arrived.received k (came_at l r at is none k (omega (arith, e)))
-
-      high : (q : ℕ) → set.contains r.arrived.received q ≡ true → q < l.sent_end
-      high q has_it =
-          let (m, there, lt) = received_is_below_sent a b h w ok s n r q is has_it in
-          let same : m ≡ l = same_Some m l (sym there ∙ at) in
-          rw same at lt
-
-      by : (o : Option ℕ) → r.final_size ≡ o → (x : Option Reset) → l.was_reset ≡ x → highest r ≡ l.sent_end
-      by (Some size) e x ex =
-          let (m, there, declared, sent, count) = final_size_is_declared a b h w ok s n r size is e in
-          let same : m ≡ l = same_Some m l (sym there ∙ at) in
-          let sent_is : l.sent_end ≡ size = rw same at sent in
-          let top : highest r ≡ size = rw e refl in
-          top ∙ sym sent_is
-      by None e None ex =
-          let top : highest r ≡ set_end r.arrived.received = rw e refl in
-          let over : set_end r.arrived.received ≤ l.sent_end = end-le r.arrived.received l.sent_end high in
-          omega (arith, low ex l.sent_end refl)
-      by None e (Some reset) ex =
-          let (known, (t, found, sized, ended)) = reset_came l reset at ex in
+      by : (x : Option Reset) → l.was_reset ≡ x → highest r ≡ l.sent_end
+      by None e = highest_is a b h w ok s n l at e (acked l at e) r is
+      by (Some reset) e =
+          let (known, (t, found, sized, ended)) = reset_came l reset at e in
           let same : t ≡ r = same_Some t r (sym found ∙ is) in
-          let here : is_some r.final_size ≡ true = rw same at sized in
-          absurd (true≢false (sym here ∙ ap is_some e))
+          let (size, final) = some_of r.final_size (rw same at sized) in
+          size_sent a b h w ok s n l r size at is final
 
   -- whole data came below the highest offset
   whole_came : (r : RecvLane) → is_whole r ≡ true → (q : ℕ) → q < highest r → set.contains r.arrived.received q ≡ true
@@ -172,29 +91,25 @@ module _ (a b : Settings) (h : History) (w : World) (ok : WorldOk a b h w) (keep
 
   -- all of it was taken
   pub taken_sent : (l : SendLane) (r : RecvLane) → sending w s n ≡ Some l → receiving w s n ≡ Some r → taken r ≡ l.sent_end
-  taken_sent l r at is = caught_up r (lawful r is) (no_news r is) (came l.was_reset refl) ∙ top
+  taken_sent l r at is = by l.was_reset refl
     where
-      top : highest r ≡ l.sent_end
-      top = highest_sent l r at is
-
-      came : (x : Option Reset) → l.was_reset ≡ x → ((q : ℕ) → q < highest r → set.contains r.arrived.received q ≡ true) ⊎ (is_some r.reset_code ≡ true)
-      came None e = inl (λ q lt. came_at l r at is e q (omega (arith, top)))
-      came (Some reset) e =
+      by : (x : Option Reset) → l.was_reset ≡ x → taken r ≡ l.sent_end
+      by None e = taken_is a b h w ok s n l at e (acked l at e) no_news r is
+      by (Some reset) e =
           let (known, (t, found, sized, ended)) = reset_came l reset at e in
           let same : t ≡ r = same_Some t r (sym found ∙ is) in
-          elim ended [
+          caught_up r (lawful a b h w ok s n r is) (no_news r is) (elim ended [
             | inl reset_known ↦ inr (rw same at reset_known)
             | inr whole ↦ inl (whole_came r (rw same at whole))
-          ]
+          ]) ∙ highest_sent l r at is
 
   -- a half alone: nothing was sent, and nothing came
   pub sent_alone : (l : SendLane) → sending w s n ≡ Some l → receiving w s n ≡ None → l.sent_end ≡ 0
-  sent_alone l at none = by l.was_reset refl l.sent_end refl
+  sent_alone l at none = by l.was_reset refl
     where
-      by : (x : Option Reset) → l.was_reset ≡ x → (k : ℕ) → l.sent_end ≡ k → l.sent_end ≡ 0
-      by (Some reset) e k ek = (let (known, (t, found, sized, ended)) = reset_came l reset at e in absurd (none-some t (sym none ∙ found)))
-      by None e zero ek = ek
-      by None e (suc k) ek = (let (t, found, has_it) = sent_came l at e k (omega (arith, ek)) in absurd (none-some t (sym none ∙ found)))
+      by : (x : Option Reset) → l.was_reset ≡ x → l.sent_end ≡ 0
+      by (Some reset) e = (let (known, (t, found, sized, ended)) = reset_came l reset at e in absurd (none-some t (sym none ∙ found)))
+      by None e = none_sent a b h w ok s n l at e (acked l at e) none
 
   came_alone : (r : RecvLane) → sending w s n ≡ None → receiving w s n ≡ Some r → highest r ≡ 0
   came_alone r none is = by r.final_size refl
@@ -210,12 +125,12 @@ module _ (a b : Settings) (h : History) (w : World) (ok : WorldOk a b h w) (keep
       (value highest y ≡ value (λ l. l.sent_end) x) × (value taken y ≡ value (λ l. l.sent_end) x)
   slots None None ex ey = (refl, refl)
   slots (Some l) None ex ey = (let nothing = sent_alone l ex ey in (sym nothing, sym nothing))
-  slots None (Some r) ex ey = (let nothing = came_alone r ex ey in (nothing, omega (arith, nothing, taken_within r (lawful r ey))))
+  slots None (Some r) ex ey = (let nothing = came_alone r ex ey in (nothing, omega (arith, nothing, taken_within r (lawful a b h w ok s n r ey))))
   slots (Some l) (Some r) ex ey = (highest_sent l r ex ey, taken_sent l r ex ey)
 
   pub reader_paid : (y : Option RecvLane) → receiving w s n ≡ y → value (λ r. fmap.len r.arrived.stored + taken r) y ≤ value highest y
   reader_paid None e = omega arith
-  reader_paid (Some r) e = stored_and_taken r (lawful r e)
+  reader_paid (Some r) e = stored_and_taken r (lawful a b h w ok s n r e)
 
   -- States
 
@@ -225,45 +140,13 @@ module _ (a b : Settings) (h : History) (w : World) (ok : WorldOk a b h w) (keep
       (l, r, at, is, rw known refl, by r is ended r.reset_code refl)
     where
       by : (r : RecvLane) → receiving w s n ≡ Some r → (is_some r.reset_code ≡ true) ⊎ (is_whole r ≡ true) → (x : Option ℕ) → r.reset_code ≡ x → (recv_state r ≡ ResetRead) ⊎ (recv_state r ≡ DataRead)
-      by r is ended (Some code) ex = (let told = reset_told r (lawful r is) (no_news r is) code ex in inl (rw (ex, told) refl))
+      by r is ended (Some code) ex = (let told = reset_told r (lawful a b h w ok s n r is) (no_news r is) code ex in inl (rw (ex, told) refl))
       by r is (inl reset_known) None ex = absurd (true≢false (sym reset_known ∙ ap is_some ex))
-      by r is (inr whole) None ex = (let told = end_told r (lawful r is) (no_news r is) ex whole in inr (rw (ex, whole, told) refl))
+      by r is (inr whole) None ex = (let told = end_told r (lawful a b h w ok s n r is) (no_news r is) ex whole in inr (rw (ex, whole, told) refl))
 
   -- once the owner finished, and all was sent, the stream is delivered
   pub is_read : (l : SendLane) → sending w s n ≡ Some l → l.was_reset ≡ None → l.fin_acked ≡ true → l.sent_end ≡ l.written → IsReadAtBoth w s n
-  is_read l at none end all = by ((acked_has_arrived a b h w ok s n).end l at end)
-    where
-      acked : (q : ℕ) → q < l.written → set.contains l.acked q ≡ true
-      acked q lt = sent_acked (end_of w s) (rest s) n l at none (sender_ok l at).sent_written (sender_ok l at).sent_limit q (omega (arith, all))
-
-      below : (q : ℕ) → set.contains l.acked q ≡ true → q < l.written
-      below q has_it = omega (arith, all, acked_sent l q at has_it)
-
-      first : unacked_from l ≡ l.written
-      first = missing_is l.acked l.written acked below
-
-      not_reset : (c : Bool) → l.reset_acked ≡ c → l.reset_acked ≡ false
-      not_reset false e = e
-      not_reset true e =
-          let (code, size, (k, holds, ack)) = ((keeps s).sends n l at).reset_told e in
-          absurd (none-some _ (sym none ∙ (sender_ok l at).told_reset code size (k, holds)))
-
-      sent : send_state l ≡ DataRecvd
-      sent =
-          let whole : send_whole l ≡ true = and_from _ _ (eq-eqb (unacked_from l) l.written first) end in
-          rw (not_reset l.reset_acked refl, none, whole) refl
-
-      by : (offset : ℕ) × (bytes : List ℕ) × HasArrived h s (Stream n offset bytes true) → IsReadAtBoth w s n
-      by (offset, bytes, arrived) =
-          let (r, is, took, fins) = arrived_was_taken a b h w ok s n offset bytes true arrived in
-          let final = fins refl in
-          let (m, there, declared, size, count) = final_size_is_declared a b h w ok s n r (offset + length bytes) is final in
-          let same : m ≡ l = same_Some m l (sym there ∙ at) in
-          let end_is : l.sent_end ≡ offset + length bytes = rw same at size in
-          let no_reset = no_reset_known l r at is none in
-          let whole : is_whole r ≡ true = ap (whole_to r.arrived.received) final ∙ covers-of r.arrived.received 0 (offset + length bytes) (λ q low lt. came_at l r at is none q (omega (arith, end_is))) in
-          let told = end_told r (lawful r is) (no_news r is) no_reset whole in
-          (l, r, at, is, sent, rw (no_reset, whole, told) refl)
+  is_read l at none = read_at_both a b h w ok s n l at none (acked l at none) no_news (keeps s)
 
   -- a reader that stopped
   pub is_stopped : (r : RecvLane) (code : ℕ) → receiving w s n ≡ Some r → r.stop_code ≡ Some code → IsResetAtBoth w s n ⊎ IsReadAtBoth w s n ⊎ IsLeftToOwner w s n
@@ -278,7 +161,7 @@ module _ (a b : Settings) (h : History) (w : World) (ok : WorldOk a b h w) (keep
               go : (x : Option Reset) → l.was_reset ≡ x → IsResetAtBoth w s n ⊎ IsReadAtBoth w s n ⊎ IsLeftToOwner w s n
               go (Some reset) e = inl (is_reset l reset at e)
               go None e =
-                  let ended = end_sent l r size at is final none in
+                  let ended = end_sent a b h w ok s n l r size at is final none in
                   inr (inl (is_read l at e (end_acked (end_of w s) (rest s) n l at e ended.0 ended.1) ended.1))
 
       by_whole : (o : Option ℕ) → r.final_size ≡ o → whole_to r.arrived.received o ≡ true → r.reset_code ≡ None → IsResetAtBoth w s n ⊎ IsReadAtBoth w s n ⊎ IsLeftToOwner w s n
@@ -346,7 +229,7 @@ module _ (a b : Settings) (h : History) (w : World) (ok : WorldOk a b h w) (keep
         streams = λ n l r at is.
             let high : highest r ≡ l.sent_end = highest_sent a b h w ok keeps rest s n l r at is in
             let paid : taken r ≡ l.sent_end = taken_sent a b h w ok keeps rest s n l r at is in
-            (high, paid, omega (arith, high, paid, stored_and_taken r (lawful a b h w ok keeps rest s n r is)));
+            (high, paid, omega (arith, high, paid, stored_and_taken r (lawful a b h w ok s n r is)));
         alone = λ n l at none. sent_alone a b h w ok keeps rest s n l at none;
       }
 

@@ -3,7 +3,9 @@
 ghost use Rattle.qs_rest.specs.Laws.{ItemsAreInOnePart, AllButAcksAsk, StopsGiveBack};
 ghost use Rattle.qs_rest.specs.Rest.{EveryRunKeeps, IdleIsRest};
 ghost use Rattle.qs_rest.specs.Again.{FramesRepeat};
+ghost use Rattle.qs_rest.specs.OneStream.{EveryStreamRests, AnswersTell};
 ghost use Rattle.qs_rest.specs.Exclusions.{Exclusions};
+ghost use Rattle.qs_rest.specs.ExclusionsOneStream.{OneStreamExclusions};
 ghost use Rattle.qs_rest.specs.Resting.{ItemsAreAcked, ToldIsTaken, AtEachRest, OnceLimitsKnown, FirstLimitsStay, TakenInIsTold, EventRunsTell, KnowsItsLimits, CreditIsWhole, HasCreditAhead, ResetsAreFinal, AllIsDelivered};
 
 /// Each item that is to be told is in an outstanding packet, or was acknowledged, or is due.
@@ -29,6 +31,16 @@ pub fn every_run_keeps()
 /// An open end is at rest where its code answers so: `is_sendable` is false, and from 0 on `next_outstanding` and `next_readable` are `None`.
 pub fn idle_is_rest()
     ensures { IdleIsRest }
+{}
+
+/// One stream that rests, whatever the others do: what was sent of it was read, and where its end was sent, both halves are in their last state.
+pub fn every_stream_rests()
+    ensures { EveryStreamRests }
+{}
+
+/// An application's questions tell the same: `acked_below` is what was written less `unsent`, and the reader has no news of the stream.
+pub fn answers_tell()
+    ensures { AnswersTell }
 {}
 
 /// At rest the peer acknowledged each item that is to be told.
@@ -84,4 +96,9 @@ pub fn all_is_delivered()
 /// Small ends that are at rest, and one that isn't for each clause.
 pub fn exclusions()
     ensures { Exclusions }
+{}
+
+/// A stream that rests while another is at work; for each clause one that doesn't rest, or isn't read, and answers that don't tell so.
+pub fn one_stream_exclusions()
+    ensures { OneStreamExclusions }
 {}
