@@ -140,7 +140,7 @@ first_of u b x y z = grind (arith, nat_tests)
 
 -- of what an end knows to be acknowledged
 pub acked_below : (a b : Settings) (h : History) (w : World) → WorldOk a b h w → (s : Side) (n : ℕ) (l : SendLane) → lookup (end_of w s).sends n ≡ Some l → (q : ℕ) → set.contains l.acked q ≡ true → q < l.written
-acked_below a b h w ok s n l is = acked_written (past s h).mine (past s h).theirs (past s h).tokens ((past s h).bytes n) n (first_send_limit (end_of w s) n) l (subst (SendSlot (past s h) n (first_send_limit (end_of w s) n)) is ((ok.ends s).sends n))
+acked_below a b h w ok s n l is = acked_written (past s h).mine (past s h).theirs (past s h).tokens ((past s h).broken n) ((past s h).bytes n) n (first_send_limit (end_of w s) n) l (subst (SendSlot (past s h) n (first_send_limit (end_of w s) n)) is ((ok.ends s).sends n))
 
 -- What is acknowledged at both ends may be taken to be more than it is, if all of it was written.
 pub record Acks (w : World) : Type 0 where

@@ -136,7 +136,7 @@ module _ (p : Past) (e : End) (ok : EndOk p e) where
       half = subst (SendSlot p n (first_send_limit e n)) is (ok.sends n)
 
       first : unacked_from l ≡ l.written
-      first = missing_is l.acked l.written all.offsets (acked_written p.mine p.theirs p.tokens (p.bytes n) n (first_send_limit e n) l half)
+      first = missing_is l.acked l.written all.offsets (acked_written p.mine p.theirs p.tokens (p.broken n) (p.bytes n) n (first_send_limit e n) l half)
 
       whole : is_whole l ≡ true
       whole = and_from _ _ (eq-eqb (unacked_from l) l.written first) all.end

@@ -1,5 +1,5 @@
 -- At rest no limit holds a stream back, and what was written was read.
-use Rattle.std.proofs.Common.{◌≡◌, ℕ, ◌<◌, ◌≤◌, true, false, length, take, Option, Some, None, refl, sym, ap, ◌∙◌, subst, arith, inl, inr}
+use Rattle.std.proofs.Common.{◌≡◌, ℕ, ◌<◌, ◌≤◌, true, false, length, take, Option, Some, None, refl, sym, ap, ◌∙◌, subst, arith, inl, inr, length-append}
 use Rattle.std.proofs.lemmas.Bool.{cases_lt, cond_both}
 use Rattle.std.proofs.Math.Seq.{take-length}
 use Rattle.qs_ranges.specs.Numbers.{MAX_VARINT}
@@ -8,14 +8,16 @@ use Rattle.qs_recv.specs.Lane.{RecvLane, taken, next_limit}
 use Rattle.qs_send.specs.Lane.{SendLane}
 use Rattle.qs_calls.specs.declared.settings.Settings.{Settings}
 use Rattle.qs_calls.specs.declared.event.Side.{Side}
-use Rattle.qs_machine.specs.Ends.{is_uni, is_own_by, first_window_by, first_window}
+use Rattle.qs_machine.specs.Ends.{is_uni, is_own_by, first_window_by, first_window, first_send_limit}
 use Rattle.qs_machine.specs.Credit.{all_sent, all_taken}
 use Rattle.qs_machine.proofs.CallsSound.{WindowsFit, windows_fit}
-use Rattle.qs_runs.specs.Logs.{History, other, stopped, read, written}
+use Rattle.qs_runs.specs.Logs.{History, other, stopped, broken_off, read, written}
 use Rattle.qs_runs.specs.Worlds.{World, end_of}
 use Rattle.qs_runs.specs.Pasts.{past}
 use Rattle.qs_runs.specs.Clauses.{sending, receiving}
-use Rattle.qs_runs.specs.Invariant.{WorldOk}
+use Rattle.qs_runs.specs.Invariant.{WorldOk, SendSlot}
+use Rattle.qs_runs.proofs.Lists.{same_length_prefix}
+use Rattle.qs_runs.proofs.Clauses.{prefix}
 use Rattle.qs_runs.proofs.Runs.{run_keeps}
 use Rattle.qs_rest.specs.Invariant.{RestOk}
 use Rattle.qs_rest.specs.Rest.{AtRest}
@@ -23,7 +25,7 @@ use Rattle.qs_rest.specs.Resting.{AtEachRest, OnceLimitsKnown, KnowsFirstLimits,
 use Rattle.qs_rest.proofs.Runs.{every_run_keeps}
 use Rattle.qs_rest.proofs.Telling.{full, ahead, all_or_limit, end_acked}
 use Rattle.qs_rest.proofs.Resting.{limits_known, window_known}
-use Rattle.qs_rest.proofs.OneStream.{lawful, sender_ok, no_reset_known, acked_sent, end_sent, sent_is_read}
+use Rattle.qs_rest.proofs.OneStream.{lawful, sender_ok, not_reset, no_reset_known, acked_sent, end_sent, sent_is_read}
 use Rattle.qs_rest.proofs.Streams.{no_news, acked, sent_alone, taken_sent, all_was_taken, is_read}
 
 -- each window is at least one byte
@@ -128,12 +130,27 @@ module _ (a b : Settings) (h : History) (w : World) (ok : WorldOk a b h w) (keep
         let whole = all_is_sent room in
         is_read a b h w ok keeps rest s n l at none (end_acked (end_of w s) (rest s) n l at none finished whole) whole
 
+  -- by the log alone
+  all_streams : HasRoom w s → (n : ℕ) → broken_off s n h ≡ false → stopped (other s) n h ≡ false → read (other s) n h ≡ written s n h
+  all_streams room n unbroken going = by (sending w s n) refl
+    where
+      by : (x : Option SendLane) → sending w s n ≡ x → read (other s) n h ≡ written s n h
+      by (Some l) e = all_is_read n l e (not_reset a b h w ok s n l e unbroken going) room going
+      by None e =
+          let slot = subst (SendSlot (past s h) n (first_send_limit (end_of w s) n)) e ((ok.ends s).sends n) in
+          let (left, is) = (prefix a b h w ok s n).prefix in
+          let nothing : length (read (other s) n h) ≡ 0 = omega (arith, length-append (read (other s) n h) left, ap length is, ap length slot.no_bytes) in
+          same_length_prefix _ _ (left, is) (nothing ∙ sym (ap length slot.no_bytes))
+
   pub all_is_delivered : AllIsDelivered h w s
-  all_is_delivered room n l at none =
+  all_is_delivered room =
       record {
-        is_sent = all_is_sent n l at none room;
-        is_read = λ going. all_is_read n l at none room going;
-        is_ended = λ finished. all_has_ended n l at none room finished;
+        halves = λ n l at none. record {
+          is_sent = all_is_sent n l at none room;
+          is_read = λ going. all_is_read n l at none room going;
+          is_ended = λ finished. all_has_ended n l at none room finished;
+        };
+        streams = all_streams room;
       }
 
 pub each_credit_ahead : AtEachRest (OnceLimitsKnown HasCreditAhead)

@@ -80,10 +80,12 @@ unread : (w : World) → IsNotAllRead w
 unfolding effects
 unread w =
     record {
-      less = λ all. absurd (cc (all.is_read refl));
-      more = λ all. absurd (cc (all.is_read refl));
-      sender = λ all. not_whole end_sent refl (sender_done _ end_sent _ refl (all.is_ended refl)).0;
-      reader = λ l sent all. not_told all_came refl (sender_done _ l all_came refl (all.is_ended sent)).1;
+      less = λ all. absurd (cc (all.is_read refl refl));
+      more = λ all. absurd (cc (all.is_read refl refl));
+      broken = record { is_read = λ unbroken. absurd (cc unbroken); is_ended = λ none sent. absurd (cc sent) };
+      unread = λ all. absurd (cc (all.streams 0 refl refl));
+      sender = λ all. not_whole end_sent refl (sender_done _ end_sent _ refl (all.is_ended refl refl)).0;
+      reader = λ l fine sent all. not_told all_came refl (sender_done _ l all_came refl (all.is_ended fine sent)).1;
     }
 
 some_left : AnswersSo (wrote_by A abc 3 ∷ []) (beside_server (client_with sent)) A 0 sent → ⊥

@@ -21,7 +21,7 @@ use Rattle.qs_machine.specs.Plains.{frames_in, but_plain}
 use Rattle.qs_machine.specs.Seen.{Seen, Close, seen, seen_all}
 use Rattle.qs_machine.specs.Alone.{is_ours}
 use Rattle.qs_machine.specs.FrameStep.{is_named}
-use Rattle.qs_machine.specs.EndStep.{Call, Answer, Write, Stop, StopAndDiscard, ReadUpTo, Consume, Receive, TakeFrame, TakeFrames, TokenAcked, Make, MakeAck, FillIn, Claim}
+use Rattle.qs_machine.specs.EndStep.{Call, Answer, Write, Reset, Stop, StopAndDiscard, ReadUpTo, Consume, Receive, TakeFrame, TakeFrames, TokenAcked, Make, MakeAck, FillIn, Claim}
 use Rattle.qs_machine.proofs.Pieces.{All_append, All_at}
 use Rattle.qs_runs.specs.Logs.{Happening, History, Effect, Acked, Ended, other, effects, effects_of, made, read_effects, took_in, sent_in, acks_in}
 use Rattle.qs_runs.specs.Worlds.{World, IsFrom, May}
@@ -118,6 +118,8 @@ module _ (P : Seen → Type 0) where
   all_news (TakeFrames fs) (Err fault) h = tt
   all_news (Write n bytes) (Ok count) h = tt
   all_news (Write n bytes) (Err fault) h = tt
+  all_news (Reset n code) (Ok done) h = tt
+  all_news (Reset n code) (Err fault) h = tt
   all_news (Stop n code) (Ok done) h = tt
   all_news (Stop n code) (Err fault) h = tt
   all_news (StopAndDiscard n code) (Ok done) h = tt

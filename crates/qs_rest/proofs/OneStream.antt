@@ -12,15 +12,16 @@ use Rattle.qs_recv.specs.Lawful.{IsLawful}
 use Rattle.qs_recv.specs.News.{is_readable}
 use Rattle.qs_recv.specs.declared.half.RecvState.TheVariants.{DataRead}
 use Rattle.qs_send.specs.Lane.{SendLane, unacked_from, is_whole as send_whole, state as send_state}
+use Rattle.qs_send.specs.declared.parts.Reset.{Reset}
 use Rattle.qs_send.specs.declared.parts.SendState.TheVariants.{DataRecvd}
-use Rattle.qs_send.specs.declared.piece.Item.TheVariants.{ResetStream}
+use Rattle.qs_send.specs.declared.piece.Item.TheVariants.{ResetStream, StopSending}
 use Rattle.qs_calls.specs.declared.settings.Settings.{Settings}
 use Rattle.qs_calls.specs.declared.event.Side.{Side}
 use Rattle.qs_machine.specs.Ends.{first_send_limit, first_window}
 use Rattle.qs_machine.specs.Asking.{unsent, unsent_of, acked_below, acked_below_of}
 use Rattle.qs_machine.specs.Standing.{HasLawfulLane}
-use Rattle.qs_machine.specs.Seen.{Stream}
-use Rattle.qs_runs.specs.Logs.{History, other, stopped, read, written}
+use Rattle.qs_machine.specs.Seen.{Stream, Control}
+use Rattle.qs_runs.specs.Logs.{History, other, stopped, broken_off, read, written}
 use Rattle.qs_runs.specs.Worlds.{World, end_of}
 use Rattle.qs_runs.specs.Agree.{IsPrefixOf}
 use Rattle.qs_runs.specs.Pasts.{past, Tells}
@@ -62,6 +63,22 @@ module _ (a b : Settings) (h : History) (w : World) (ok : WorldOk a b h w) (s : 
 
   pub reader_ok : (r : RecvLane) → receiving w s n ≡ Some r → RecvOk (past (other s) h) n (first_window (end_of w (other s)) n) r
   reader_ok r is = subst (RecvSlot (past (other s) h) n (first_window (end_of w (other s)) n)) is ((ok.ends (other s)).recvs n)
+
+  -- a half that its owner didn't reset, and whose reader didn't stop, wasn't reset
+  pub not_reset : (l : SendLane) → sending w s n ≡ Some l → broken_off s n h ≡ false → stopped (other s) n h ≡ false → l.was_reset ≡ None
+  not_reset l at unbroken going = by l.was_reset refl
+    where
+      asked : (code : ℕ) → Tells (past (other s) h).mine (Control (StopSending n code)) → (y : Option RecvLane) → receiving w s n ≡ y → ⊥
+      asked code t None e = (subst (RecvSlot (past (other s) h) n (first_window (end_of w (other s)) n)) e ((ok.ends (other s)).recvs n)).no_stop code t
+      asked code t (Some r) e = false≢true (sym going ∙ (reader_ok r e).stop_asked code t)
+
+      by : (x : Option Reset) → l.was_reset ≡ x → l.was_reset ≡ None
+      by None e = e
+      by (Some reset) e =
+          elim ((sender_ok l at).reset_asked (ap is_some e)) [
+            | inl own ↦ absurd (false≢true (sym unbroken ∙ own))
+            | inr (code, t) ↦ absurd (asked code t (receiving w s n) refl)
+          ]
 
   -- what is acknowledged was sent
   pub acked_sent : (l : SendLane) (q : ℕ) → sending w s n ≡ Some l → set.contains l.acked q ≡ true → q < l.sent_end
@@ -211,10 +228,10 @@ module _ (a b : Settings) (h : History) (w : World) (ok : WorldOk a b h w) (s : 
 
 -- The two laws
 
-module _ (a b : Settings) (h : History) (w : World) (ok : WorldOk a b h w) (keeps : (s : Side) → RestOk (past s h) (end_of w s)) (s : Side) (n : ℕ) (l : SendLane) (at : sending w s n ≡ Some l) (none : l.was_reset ≡ None) where
+module _ (a b : Settings) (h : History) (w : World) (ok : WorldOk a b h w) (keeps : (s : Side) → RestOk (past s h) (end_of w s)) (s : Side) (n : ℕ) (l : SendLane) (at : sending w s n ≡ Some l) where
   -- what was sent of a stream that rests is acknowledged
-  sent_acked : StreamRests w s n l → (q : ℕ) → q < l.sent_end → set.contains l.acked q ≡ true
-  sent_acked rests q lt = go (set.contains l.acked q) refl
+  sent_acked : StreamRests w s n l → l.was_reset ≡ None → (q : ℕ) → q < l.sent_end → set.contains l.acked q ≡ true
+  sent_acked rests none q lt = go (set.contains l.acked q) refl
     where
       go : (b : Bool) → set.contains l.acked q ≡ b → set.contains l.acked q ≡ true
       go true is = is
@@ -226,8 +243,8 @@ module _ (a b : Settings) (h : History) (w : World) (ok : WorldOk a b h w) (keep
             not_sent = λ (c, flies, low, high). rests.none_out c flies;
           }))
 
-  end_acked : StreamRests w s n l → l.fin_sent ≡ true → l.fin_acked ≡ true
-  end_acked rests sent = go l.fin_acked refl
+  end_acked : StreamRests w s n l → l.was_reset ≡ None → l.fin_sent ≡ true → l.fin_acked ≡ true
+  end_acked rests none sent = go l.fin_acked refl
     where
       go : (b : Bool) → l.fin_acked ≡ b → l.fin_acked ≡ true
       go true is = is
@@ -237,13 +254,13 @@ module _ (a b : Settings) (h : History) (w : World) (ok : WorldOk a b h w) (keep
   pub stream_rests : StreamRests w s n l → SentIsRead h w s n l
   stream_rests rests =
       record {
-        is_read = sent_is_read a b h w ok s n l at none (sent_acked rests) rests.read_out;
-        is_ended = λ sent. read_at_both a b h w ok s n l at none (sent_acked rests) rests.read_out (keeps s) (end_acked rests sent) ((sender_ok a b h w ok s n l at).end sent).1;
+        is_read = λ unbroken going. (let none = not_reset a b h w ok s n l at unbroken going in sent_is_read a b h w ok s n l at none (sent_acked rests none) rests.read_out going);
+        is_ended = λ none sent. read_at_both a b h w ok s n l at none (sent_acked rests none) rests.read_out (keeps s) (end_acked rests none sent) ((sender_ok a b h w ok s n l at).end sent).1;
       }
 
   -- all below `acked_below` is acknowledged, and that is what was sent
-  answer_acked : AnswersSo h w s n l → (q : ℕ) → q < l.sent_end → set.contains l.acked q ≡ true
-  answer_acked answers q lt =
+  answer_acked : AnswersSo h w s n l → l.was_reset ≡ None → (q : ℕ) → q < l.sent_end → set.contains l.acked q ≡ true
+  answer_acked answers none q lt =
       let below : acked_below (end_of w s) n ≡ Some (unacked_from l) = ap acked_below_of at in
       let left : unsent (end_of w s) n ≡ l.written - l.sent_end = ap unsent_of at ∙ rw none refl in
       let same : unacked_from l ≡ length (written s n h) - unsent (end_of w s) n = same_Some _ _ (sym below ∙ answers.acked) in
@@ -259,15 +276,15 @@ module _ (a b : Settings) (h : History) (w : World) (ok : WorldOk a b h w) (keep
   pub answers_tell : AnswersSo h w s n l → SentIsRead h w s n l
   answers_tell answers =
       record {
-        is_read = sent_is_read a b h w ok s n l at none (answer_acked answers) (answer_news answers);
-        is_ended = λ sent.
+        is_read = λ unbroken going. (let none = not_reset a b h w ok s n l at unbroken going in sent_is_read a b h w ok s n l at none (answer_acked answers none) (answer_news answers) going);
+        is_ended = λ none sent.
             let whole : send_whole l ≡ true = whole_state l (answers.end sent) in
             let parts = and_parts _ _ whole in
-            read_at_both a b h w ok s n l at none (answer_acked answers) (answer_news answers) (keeps s) parts.1 ((sender_ok a b h w ok s n l at).end sent).1;
+            read_at_both a b h w ok s n l at none (answer_acked answers none) (answer_news answers) (keeps s) parts.1 ((sender_ok a b h w ok s n l at).end sent).1;
       }
 
 pub every_stream_rests : EveryStreamRests
-every_stream_rests a b h w run s n l at none = stream_rests a b h w (run_keeps a b h w run) (every_run_keeps a b h w run) s n l at none
+every_stream_rests a b h w run s n l at = stream_rests a b h w (run_keeps a b h w run) (every_run_keeps a b h w run) s n l at
 
 pub every_answer_tells : AnswersTell
-every_answer_tells a b h w run s n l at none = answers_tell a b h w (run_keeps a b h w run) (every_run_keeps a b h w run) s n l at none
+every_answer_tells a b h w run s n l at = answers_tell a b h w (run_keeps a b h w run) (every_run_keeps a b h w run) s n l at

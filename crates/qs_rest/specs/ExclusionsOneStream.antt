@@ -1,6 +1,6 @@
 -- Of laws.
 -- What a stream at rest excludes, clause by clause, and what its rest tells (RFC 9000, sections 2.2, 3 and 13.3).
-use Rattle.std.specs.Prelude.{◌≡◌, true, false, [], ◌∷◌, Some}
+use Rattle.std.specs.Prelude.{◌≡◌, true, false, [], ◌∷◌, None, Some}
 use Rattle.qs_ranges.specs.Numbers.{numbers}
 use Rattle.qs_send.specs.Lane.{SendLane}
 use Rattle.qs_send.specs.declared.piece.Piece.TheVariants.{Data}
@@ -12,7 +12,8 @@ use Rattle.qs_machine.specs.Examples.{standard, client_of, server}
 use Rattle.qs_machine.specs.SmallEnds.{client_with, server_with, carrying, abc, chunk, begun, wrote, sent, finished, fresh, three_came, all_came}
 use Rattle.qs_runs.specs.Logs.{History}
 use Rattle.qs_runs.specs.Worlds.{World}
-use Rattle.qs_runs.specs.Examples.{wrote as wrote_by, got}
+use Rattle.qs_runs.specs.Examples.{wrote as wrote_by, got, reset}
+use Rattle.qs_rest.specs.Resting.{IsAllDelivered}
 use Rattle.qs_rest.specs.OneStream.{StreamRests, SentIsRead, AnswersSo}
 use Rattle.qs_rest.specs.Exclusions.{beside_server}
 
@@ -53,10 +54,14 @@ pub record IsNotAllRead (w : World) : Type 0 where
   pub less : SentIsRead (wrote_by A abc 3 ∷ []) w A 0 sent → ⊥
   -- or more
   pub more : SentIsRead (got B abc ∷ wrote_by A abc 3 ∷ []) w A 0 wrote → ⊥
+  -- though nothing is said of what its writer broke off
+  pub broken : SentIsRead (reset A 0 ∷ wrote_by A abc 3 ∷ []) w A 0 sent
+  -- nor all that was written, by the log alone, where the reader has less
+  pub unread : IsAllDelivered (wrote_by A abc 3 ∷ []) w A → ⊥
   -- where the end isn't acknowledged
   pub sender : SentIsRead [] (both (client_with end_sent) (server_with (record fresh { reader_done = true }))) A 0 end_sent → ⊥
   -- or wasn't told to the reader
-  pub reader : (l : SendLane) → l.fin_sent ≡ true → SentIsRead [] (both (client_with l) (server_with all_came)) A 0 l → ⊥
+  pub reader : (l : SendLane) → l.was_reset ≡ None → l.fin_sent ≡ true → SentIsRead [] (both (client_with l) (server_with all_came)) A 0 l → ⊥
 
 -- The applications aren't answered so
 pub record IsNotAnswered : Type 0 where

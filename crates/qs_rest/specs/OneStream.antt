@@ -14,7 +14,7 @@ use Rattle.qs_machine.specs.Due.{IsOutstanding, IsDue, IsEndDue}
 use Rattle.qs_machine.specs.Owner.{is_read_no_more}
 use Rattle.qs_machine.specs.Asking.{unsent, acked_below}
 use Rattle.qs_machine.specs.News.{IsReadable}
-use Rattle.qs_runs.specs.Logs.{History, other, stopped, written, read}
+use Rattle.qs_runs.specs.Logs.{History, other, stopped, broken_off, written, read}
 use Rattle.qs_runs.specs.Worlds.{World, end_of, Run}
 use Rattle.qs_rest.specs.Rest.{TellsNoNews}
 use Rattle.qs_rest.specs.Resting.{IsReadAtBoth}
@@ -27,17 +27,17 @@ pub record StreamRests (w : World) (s : Side) (n : ℕ) (l : SendLane) : Type 0 
   pub none_out : (c : Chunk) → IsOutstanding (end_of w s) (Data n c) → ⊥
   pub read_out : (r : RecvLane) → recv_lane (end_of w (other s)) n ≡ Some r → TellsNoNews (read_answer r 1) r
 
--- All that was sent was read, unless the reader stopped; and where the end was sent, both halves are in their last state (sections 2.2, 3.1
--- and 3.2).
+-- Unless its writer broke it off or its reader stopped, all that was sent was read; and where the end was sent, and no reset is known, both
+-- halves are in their last state (sections 2.2, 3.1, 3.2 and 3.5).
 pub record SentIsRead (h : History) (w : World) (s : Side) (n : ℕ) (l : SendLane) : Type 0 where
-  pub is_read : stopped (other s) n h ≡ false → read (other s) n h ≡ take l.sent_end (written s n h)
-  pub is_ended : l.fin_sent ≡ true → IsReadAtBoth w s n
+  pub is_read : broken_off s n h ≡ false → stopped (other s) n h ≡ false → read (other s) n h ≡ take l.sent_end (written s n h)
+  pub is_ended : l.was_reset ≡ None → l.fin_sent ≡ true → IsReadAtBoth w s n
 
 -- in every run: no premise on limits, on the other streams, on what else is pending
 abbrev pub EveryStreamRests : Type 0
 EveryStreamRests =
     (a b : Settings) (h : History) (w : World) → Run a b h w → (s : Side) (n : ℕ) (l : SendLane) → send_lane (end_of w s) n ≡ Some l →
-    l.was_reset ≡ None → StreamRests w s n l → SentIsRead h w s n l
+    StreamRests w s n l → SentIsRead h w s n l
 
 -- What the two applications may ask of a stream, and be answered: `acked_below` is what was written less `unsent`; once the end was sent,
 -- the sending half is in Data Recvd; and the reader's end, which is read on, has no news of it (sections 2.2, 3.1 and 13.3).
@@ -51,4 +51,4 @@ pub record AnswersSo (h : History) (w : World) (s : Side) (n : ℕ) (l : SendLan
 abbrev pub AnswersTell : Type 0
 AnswersTell =
     (a b : Settings) (h : History) (w : World) → Run a b h w → (s : Side) (n : ℕ) (l : SendLane) → send_lane (end_of w s) n ≡ Some l →
-    l.was_reset ≡ None → AnswersSo h w s n l → SentIsRead h w s n l
+    AnswersSo h w s n l → SentIsRead h w s n l

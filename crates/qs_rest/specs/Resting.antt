@@ -18,7 +18,7 @@ use Rattle.qs_machine.specs.Credit.{spent, all_taken, all_stored, all_sent, gran
 use Rattle.qs_machine.specs.Due.{IsCurrent, IsAcked, known_count}
 use Rattle.qs_machine.specs.Seen.{Control}
 use Rattle.qs_machine.specs.EndStep.{RaiseLimits}
-use Rattle.qs_runs.specs.Logs.{Happening, History, other, stopped, written, read}
+use Rattle.qs_runs.specs.Logs.{Happening, History, other, stopped, broken_off, written, read}
 use Rattle.qs_runs.specs.Worlds.{World, end_of, WorldStep, Run}
 use Rattle.qs_runs.specs.Events.{Log, EventRun}
 use Rattle.qs_runs.specs.Pasts.{past}
@@ -131,6 +131,12 @@ pub record IsDelivered (h : History) (w : World) (s : Side) (n : ℕ) (l : SendL
   -- and once its owner finished, the end too was acknowledged, and told to the reader (sections 3.1 and 3.2)
   pub is_ended : l.finished ≡ true → IsReadAtBoth w s n
 
--- each stream that wasn't reset, unless the connection's credit is used up for good (RFC 9000, section 4.1)
+-- Each stream that wasn't reset; and by the log alone: unless its writer broke it off or its reader stopped, all that was written was read (RFC
+-- 9000, sections 2.2, 3.1 and 3.5).
+pub record IsAllDelivered (h : History) (w : World) (s : Side) : Type 0 where
+  pub halves : (n : ℕ) (l : SendLane) → send_lane (end_of w s) n ≡ Some l → l.was_reset ≡ None → IsDelivered h w s n l
+  pub streams : (n : ℕ) → broken_off s n h ≡ false → stopped (other s) n h ≡ false → read (other s) n h ≡ written s n h
+
+-- unless the connection's credit is used up for good (RFC 9000, section 4.1)
 abbrev pub AllIsDelivered : History → World → Side → Type 0
-AllIsDelivered h w s = HasRoom w s → (n : ℕ) (l : SendLane) → send_lane (end_of w s) n ≡ Some l → l.was_reset ≡ None → IsDelivered h w s n l
+AllIsDelivered h w s = HasRoom w s → IsAllDelivered h w s

@@ -1,8 +1,8 @@
 -- A sending half that is allowed more, reset and acknowledged; and what an ACK does to an end.
 use Rattle.std.proofs.lemmas.Bool.Decides.{nat_tests}
-use Rattle.std.proofs.Common.{◌≡◌, ℕ, ◌+◌, ◌-◌, ◌≤◌, max, Bool, true, false, List, [], ◌∷◌, drop, length, Option, Some, None, is_some, refl, sym, ap, ◌∙◌, subst, arith, inl, inr, if◌then◌else◌, drop-drop}
+use Rattle.std.proofs.Common.{◌≡◌, ℕ, ◌+◌, ◌-◌, ◌≤◌, ◌==◌, max, Bool, true, false, ◌⊎◌, List, [], ◌∷◌, drop, length, Option, Some, None, is_some, refl, sym, ap, ◌∙◌, subst, arith, inl, inr, if◌then◌else◌, drop-drop}
 use Rattle.std.proofs.lemmas.Option.{none-some, same_Some}
-use Rattle.std.proofs.lemmas.Bool.{or_cases, cases_lt}
+use Rattle.std.proofs.lemmas.Bool.{or_cases, cases_lt, eq-eqb}
 use Rattle.std.specs.FinMap as fmap
 use Rattle.std.specs.FinSet as set
 use Rattle.std.specs.List.{AllByRecursion}
@@ -11,18 +11,23 @@ use Rattle.qs_wire.specs.declared.stream_id.Dir.TheVariants.{Uni}
 use Rattle.qs_send.specs.Lane.{SendLane, allow_lane, reset_lane, broken_off, first_code, stop_taken, reset_refusal, acked_lane, reset_acked_lane, unacked_from, chunk_offsets}
 use Rattle.qs_send.specs.declared.parts.Chunk.{Chunk}
 use Rattle.qs_send.specs.declared.piece.Item.{Item}
-use Rattle.qs_send.specs.declared.piece.Item.TheVariants.{MaxStreamData, MaxStreams, ResetStream, StreamsBlocked}
+use Rattle.qs_send.specs.declared.piece.Item.TheVariants.{MaxStreamData, MaxStreams, ResetStream, StopSending, StreamsBlocked}
 use Rattle.qs_send.specs.declared.piece.Piece.{Piece}
 use Rattle.qs_send.specs.declared.piece.Piece.TheVariants.{Data, Told}
-use Rattle.qs_machine.specs.Ends.{End, AckedItems, Records, LostPackets, lost_less, first_send_limit}
+use Rattle.qs_machine.specs.Tables.{lookup, update, updated}
+use Rattle.qs_machine.specs.Ends.{End, AckedItems, Records, LostPackets, lost_less, first_send_limit, on_send}
+use Rattle.qs_machine.specs.Credit.{all_sent}
 use Rattle.qs_machine.specs.Seen.{Control}
 use Rattle.qs_send.specs.Records.{without_first, Among}
 use Rattle.qs_machine.specs.FrameStep.{AckedPiece, piece_acked, item_acked, acks, without_piece, named, is_named, held}
 use Rattle.qs_runs.proofs.Members.{run-cases, run-old, get-inserted, get-removed}
-use Rattle.qs_runs.proofs.Changes.{missing-more, send_kept, send_alike, send_same}
+use Rattle.qs_runs.proofs.Changes.{missing-more, send_kept, send_alike, send_same, end_anew, without_sum, open_update}
 use Rattle.qs_runs.specs.Pasts.{Past, PieceOf, Tells, WasConfirmed}
-use Rattle.qs_runs.specs.Invariant.{EndHas, EndOk, SendOk, StoodIn}
+use Rattle.qs_runs.specs.Invariant.{EndHas, EndOk, SendTrue, SendOk, SendSlot, OpenOk, is_open, StoodIn}
+use Rattle.qs_runs.specs.Logs.{BrokeOff}
+use Rattle.qs_runs.proofs.Past.{with_effect}
 use Rattle.qs_machine.proofs.Pieces.{all_named}
+use Rattle.qs_machine.proofs.TableLaws.{slots_updated, total_update}
 use Rattle.qs_machine.proofs.EveryCall.{same_either}
 
 -- One half
@@ -33,7 +38,7 @@ not_reset l e = grind (arith, nat_tests)
 
 module _ (p : Past) (n limit : ℕ) (l : SendLane) (h : SendOk p n limit l) where
   pub allow_ok : (m : ℕ) → Tells p.theirs (Control (MaxStreamData n m)) → SendOk p n limit (allow_lane l m)
-  allow_ok m t = send_alike h (λ is. is) (λ k ack. ack) (omega (arith, h.sent_limit)) (elim (cases_lt l.limit m) [
+  allow_ok m t = send_alike h (λ own. own) (λ is. is) (λ f t. t) (λ k ack. ack) (omega (arith, h.sent_limit)) (elim (cases_lt l.limit m) [
     | inl lt ↦ (let e : max l.limit m ≡ m = omega arith in inr (rw e t))
     | inr ge ↦ (let e : max l.limit m ≡ l.limit = omega arith in rw e h.limit_told)
   ])
@@ -41,10 +46,11 @@ module _ (p : Past) (n limit : ℕ) (l : SendLane) (h : SendOk p n limit l) wher
   size_is_end : (b : Bool) → l.fin_sent ≡ b → (if b then l.written else l.sent_end) ≡ l.sent_end
   size_is_end b e = grind (arith, nat_tests)
 
-  reset_by : (code : ℕ) (b : Bool) → is_some (reset_refusal l) ≡ b →
-      SendOk p n limit (if b then l else record l { kept = []; was_reset = Some (record { code = code; size = if l.fin_sent then l.written else l.sent_end }) })
-  reset_by code true refused = h
-  reset_by code false allowed =
+  -- by its owner, or as the peer asked
+  reset_by : (broke : Bool) → (p.broken n ≡ true → broke ≡ true) → (broke ≡ true) ⊎ ((asked : ℕ) × Tells p.theirs (Control (StopSending n asked))) → (code : ℕ) (b : Bool) → is_some (reset_refusal l) ≡ b →
+      SendTrue p.mine p.theirs p.tokens broke (p.bytes n) n limit (if b then l else record l { kept = []; was_reset = Some (record { code = code; size = if l.fin_sent then l.written else l.sent_end }) })
+  reset_by broke breaks by code true refused = send_alike h breaks (λ is. is) (λ f t. t) (λ k ack. ack) h.sent_limit h.limit_told
+  reset_by broke breaks by code false allowed =
       let none : l.was_reset ≡ None = not_reset l allowed in
       record {
         count = h.count;
@@ -58,25 +64,26 @@ module _ (p : Past) (n limit : ℕ) (l : SendLane) (h : SendOk p n limit l) wher
         acked = h.acked;
         end_acked = h.end_acked;
         limit_told = h.limit_told;
+        reset_asked = λ is. by;
       }
 
   -- a reset tells the sent end, once (RFC 9000, section 4.5)
-  pub reset_ok : (code : ℕ) → SendOk p n limit (reset_lane l code)
-  reset_ok code = reset_by code (is_some (reset_refusal l)) refl
+  pub reset_ok : (code : ℕ) → SendTrue p.mine p.theirs p.tokens true (p.bytes n) n limit (reset_lane l code)
+  reset_ok code = reset_by true (λ own. refl) (inl refl) code (is_some (reset_refusal l)) refl
 
   -- the code of a STOP_SENDING is kept beside what is true of a half (RFC 9000, section 3.5)
-  stopped_by : (code : ℕ) (b : Bool) → is_some (reset_refusal l) ≡ b → SendOk p n limit (if b then l else record (broken_off l code) { stopped = first_code l.stopped code })
-  stopped_by code true refused = h
-  stopped_by code false allowed = send_same (reset_by code false allowed)
+  stopped_by : (code : ℕ) → Tells p.theirs (Control (StopSending n code)) → (b : Bool) → is_some (reset_refusal l) ≡ b → SendOk p n limit (if b then l else record (broken_off l code) { stopped = first_code l.stopped code })
+  stopped_by code t true refused = h
+  stopped_by code t false allowed = send_same (reset_by (p.broken n) (λ own. own) (inr (code, t)) code false allowed)
 
   noted_by : (code : ℕ) (b : Bool) → SendOk p n limit (if b then l else record l { stopped = first_code l.stopped code })
   noted_by code true = h
   noted_by code false = send_same h
 
   -- a STOP_SENDING resets it, or is told (RFC 9000, section 3.5)
-  pub stopped_ok : (answers : Bool) (code : ℕ) → SendOk p n limit (stop_taken answers l code)
-  stopped_ok true code = noted_by code (is_some (reset_refusal l))
-  stopped_ok false code = stopped_by code (is_some (reset_refusal l)) refl
+  pub stopped_ok : (answers : Bool) (code : ℕ) → Tells p.theirs (Control (StopSending n code)) → SendOk p n limit (stop_taken answers l code)
+  stopped_ok true code t = noted_by code (is_some (reset_refusal l))
+  stopped_ok false code t = stopped_by code t (is_some (reset_refusal l)) refl
 
   pub stopped_end : (answers : Bool) (code : ℕ) → (stop_taken answers l code).sent_end ≡ l.sent_end
   stopped_end answers code = grind (arith, nat_tests)
@@ -108,6 +115,7 @@ module _ (p : Past) (n limit : ℕ) (l : SendLane) (h : SendOk p n limit l) wher
           | inr new ↦ (k, c.offset, bytes, rw new at holds, ack)
         ];
         limit_told = h.limit_told;
+        reset_asked = h.reset_asked;
       }
 
   -- the mark that the reset was acknowledged is in no clause
@@ -160,6 +168,37 @@ module _ (p : Past) where
   unfolding acks
   acks_ok [] e all ok = ok
   acks_ok (a ∷ pieces) e all ok = acks_ok pieces _ all.1 (piece_acked_ok _ a.number a.piece all.0.0 all.0.1 (without_piece_ok a.late a.number e ok))
+
+-- The owner resets a half, as its past tells then
+
+module _ (p : Past) (e : End) (n : ℕ) (ok : EndOk p e) (code : ℕ) where
+  breaks : (m : ℕ) → p.broken m ≡ true → (with_effect (BrokeOff n) p).broken m ≡ true
+  breaks m is = or_true (m == n) (p.broken m) is
+    where
+      or_true : (b c : Bool) → c ≡ true → (if b then true else c) ≡ true
+      or_true true c is = refl
+      or_true false c is = is
+
+  slot_broken : (m : ℕ) (o : Option SendLane) → SendSlot p m (first_send_limit e m) o → SendSlot (with_effect (BrokeOff n) p) m (first_send_limit e m) o
+  slot_broken m None h = h
+  slot_broken m (Some l) h = send_alike h (breaks m) (λ is. is) (λ f t. t) (λ k ack. ack) h.sent_limit h.limit_told
+
+  pub was_reset_ok : EndOk (with_effect (BrokeOff n) p) (on_send n (λ m. reset_lane m code) e)
+  was_reset_ok = go (lookup e.sends n) refl
+    where
+      go : (o : Option SendLane) → lookup e.sends n ≡ o → EndOk (with_effect (BrokeOff n) p) (record e { sends = updated e.sends n (λ m. reset_lane m code) o })
+      go None is = end_anew ok (λ m. slot_broken m (lookup e.sends m) (ok.sends m)) ok.credit ok.streams
+      go (Some l) is =
+          let h : SendOk p n (first_send_limit e n) l = subst (SendSlot p n (first_send_limit e n)) is (ok.sends n) in
+          let this = reset_ok p n (first_send_limit e n) l h code in
+          let new : SendLane = reset_lane l code in
+          without_sum (with_effect (BrokeOff n) p) (record e { sends = update e.sends n new }) (all_sent e) (all_sent (record e { sends = update e.sends n new }))
+          (end_anew ok
+          (slots_updated (λ m o. SendSlot (with_effect (BrokeOff n) p) m (first_send_limit e m) o) e.sends n l new is (λ m ne. slot_broken m (lookup e.sends m) (ok.sends m))
+          (subst (λ b. SendTrue p.mine p.theirs p.tokens (if b then true else p.broken n) (p.bytes n) n (first_send_limit e n) new) (sym (eq-eqb n n refl)) this))
+          ok.credit
+          (subst (λ s. OpenOk p e.role e.peer.streams_bidi e.peer.streams_uni e.known_bidi e.known_uni s (is_open e.recvs)) (sym (open_update e.sends n l new is)) ok.streams))
+          (omega (arith, total_update (λ x. x.sent_end) e.sends n l new is, ok.credit.sent_known, reset_end p n (first_send_limit e n) l h code))
 
 -- The pieces that an ACK takes
 

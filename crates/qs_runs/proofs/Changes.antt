@@ -45,15 +45,29 @@ pub missing-more : (s t : NumberSet) → ((q : ℕ) → set.contains s q ≡ tru
 missing-more s t all = missing_from-more s t 0 all
 
 -- The past of the peer grows, a limit moves, an end is asked for, and what no clause speaks of may be anything.
-pub send_alike : {mine theirs more : Packets} {tokens told : ℕ → Bool} {all : List ℕ} {n first limit top buffer widest : ℕ} {finished blocked confirmed : Bool} {stopped : Option ℕ} {l : SendLane} → SendTrue mine theirs tokens all n first l →
-    (l.finished ≡ true → finished ≡ true) → ((k : ℕ) → WasConfirmed theirs tokens k → WasConfirmed more told k) → l.sent_end ≤ top → (top ≤ limit) ⊎ Tells more (Control (MaxStreamData n top)) →
-    SendTrue mine more told all n limit (record l { limit = top; buffer = buffer; widest = widest; finished = finished; blocked_sent = blocked; reset_acked = confirmed; stopped = stopped })
-send_alike h asked confirms below known = grind (arith, nat_tests)
+pub send_alike : {mine theirs more : Packets} {tokens told : ℕ → Bool} {broken broke : Bool} {all : List ℕ} {n first limit top buffer widest : ℕ} {finished blocked confirmed : Bool} {stopped : Option ℕ} {l : SendLane} → SendTrue mine theirs tokens broken all n first l →
+    (broken ≡ true → broke ≡ true) → (l.finished ≡ true → finished ≡ true) → ((f : Seen) → Tells theirs f → Tells more f) → ((k : ℕ) → WasConfirmed theirs tokens k → WasConfirmed more told k) → l.sent_end ≤ top → (top ≤ limit) ⊎ Tells more (Control (MaxStreamData n top)) →
+    SendTrue mine more told broke all n limit (record l { limit = top; buffer = buffer; widest = widest; finished = finished; blocked_sent = blocked; reset_acked = confirmed; stopped = stopped })
+send_alike h breaks asked hears confirms below known =
+    record {
+      count = h.count;
+      kept = h.kept;
+      sent_written = h.sent_written;
+      sent_limit = below;
+      end = λ is. (asked (h.end is).0, (h.end is).1);
+      reset_size = h.reset_size;
+      told = h.told;
+      told_reset = h.told_reset;
+      acked = λ q is. (let (k, offset, bytes, fin, holds, low, high, ack) = h.acked q is in (k, offset, bytes, fin, holds, low, high, confirms k ack));
+      end_acked = λ is. (let (k, offset, bytes, holds, ack) = h.end_acked is in (k, offset, bytes, holds, confirms k ack));
+      limit_told = known;
+      reset_asked = λ is. elim (h.reset_asked is) [ inl own ↦ inl (breaks own) | inr (code, t) ↦ inr (code, hears _ t) ];
+    }
 
 -- what no clause speaks of
-pub send_same : {mine theirs : Packets} {tokens : ℕ → Bool} {all : List ℕ} {n limit buffer widest : ℕ} {blocked confirmed : Bool} {stopped : Option ℕ} {l : SendLane} → SendTrue mine theirs tokens all n limit l →
-    SendTrue mine theirs tokens all n limit (record l { buffer = buffer; widest = widest; blocked_sent = blocked; reset_acked = confirmed; stopped = stopped })
-send_same h = send_alike h (λ is. is) (λ k ack. ack) h.sent_limit h.limit_told
+pub send_same : {mine theirs : Packets} {tokens : ℕ → Bool} {broken : Bool} {all : List ℕ} {n limit buffer widest : ℕ} {blocked confirmed : Bool} {stopped : Option ℕ} {l : SendLane} → SendTrue mine theirs tokens broken all n limit l →
+    SendTrue mine theirs tokens broken all n limit (record l { buffer = buffer; widest = widest; blocked_sent = blocked; reset_acked = confirmed; stopped = stopped })
+send_same h = send_alike h (λ own. own) (λ is. is) (λ f t. t) (λ k ack. ack) h.sent_limit h.limit_told
 
 -- A limit rises, an end is given, and what no clause speaks of may be anything.
 pub recv_alike : {mine theirs : Packets} {given : List ℕ} {stopped ended was told : Bool} {n w top window widest : ℕ} {share : Share} {l : RecvLane} → RecvTrue mine theirs given stopped ended n w l → l.limit ≤ top →
@@ -70,6 +84,7 @@ recv_alike h rises is_end =
       ended = is_end;
       window_granted = omega (arith, rises, h.window_granted);
       limit_told = λ limit t. omega (arith, rises, h.limit_told limit t);
+      stop_asked = h.stop_asked;
     }
 
 -- One half of a stream changes, and what that leaves of the invariant.
@@ -116,17 +131,17 @@ grows_update t n l m is g j x there =
       | inr ne ↦ (x, lookup_other t n j m ne ∙ there, Grows_refl x)
     ]
 
--- Of what was written, of the sending halves, of credit and of the counts of streams another account is given; what no clause speaks of may be anything.
-pub end_anew : {p : Past} {e : End} {sent less known granted bidi uni more_bidi more_uni : ℕ} {bytes : ℕ → List ℕ} {sends : Tables SendLane} {present : Present} → EndHas p e sent →
-    ((n : ℕ) → SendSlot (record p { bytes = bytes }) n (first_send_limit e n) (lookup sends n)) → CreditTrue p.mine p.theirs less known granted e.peer.max_data e.settings.conn_window →
+-- Of what was written and reset, of the sending halves, of credit and of the counts of streams another account is given; what no clause speaks of may be anything.
+pub end_anew : {p : Past} {e : End} {sent less known granted bidi uni more_bidi more_uni : ℕ} {broken : ℕ → Bool} {bytes : ℕ → List ℕ} {sends : Tables SendLane} {present : Present} → EndHas p e sent →
+    ((n : ℕ) → SendSlot (record p { broken = broken; bytes = bytes }) n (first_send_limit e n) (lookup sends n)) → CreditTrue p.mine p.theirs less known granted e.peer.max_data e.settings.conn_window →
     OpenOk p e.role e.peer.streams_bidi e.peer.streams_uni bidi uni (is_open sends) (is_open e.recvs) →
-    EndHas (record p { bytes = bytes }) (record e { sends = sends; known_data = known; known_bidi = bidi; known_uni = uni; granted = granted; granted_bidi = more_bidi; granted_uni = more_uni; present = present }) less
+    EndHas (record p { broken = broken; bytes = bytes }) (record e { sends = sends; known_data = known; known_bidi = bidi; known_uni = uni; granted = granted; granted_bidi = more_bidi; granted_uni = more_uni; present = present }) less
 end_anew ok sends credit streams = record { sends = sends; recvs = ok.recvs; packets = ok.packets; taken = ok.taken; credit = credit; streams = streams }
 
 pub without_sum : (p : Past) (e : End) (sent less : ℕ) → EndHas p e sent → less ≤ e.known_data → EndHas p e less
 without_sum p e sent less ok le = grind (arith, nat_tests)
 
-pub lane_changed : (p : Past) (e : End) (sent n : ℕ) (l m : SendLane) → EndHas p e sent → lookup e.sends n ≡ Some l → SendTrue p.mine p.theirs p.tokens (p.bytes n) n (first_send_limit e n) m → EndHas p (record e { sends = update e.sends n m }) sent
+pub lane_changed : (p : Past) (e : End) (sent n : ℕ) (l m : SendLane) → EndHas p e sent → lookup e.sends n ≡ Some l → SendTrue p.mine p.theirs p.tokens (p.broken n) (p.bytes n) n (first_send_limit e n) m → EndHas p (record e { sends = update e.sends n m }) sent
 lane_changed p e sent n l m ok is this =
     end_anew ok (slots_updated (λ j o. SendSlot p j (first_send_limit e j) o) e.sends n l m is (λ j ne. ok.sends j) this) ok.credit
     (subst (λ s. OpenOk p e.role e.peer.streams_bidi e.peer.streams_uni e.known_bidi e.known_uni s (is_open e.recvs)) (sym (open_update e.sends n l m is)) ok.streams)
@@ -251,18 +266,18 @@ pub write_allowed : (l : SendLane) → refusal l ≡ None → (l.was_reset ≡ N
 write_allowed l is = grind (arith, nat_tests)
 
 -- an acknowledged offset was written
-pub acked_written : (mine theirs : Packets) (tokens : ℕ → Bool) (all : List ℕ) (n limit : ℕ) (l : SendLane) → SendTrue mine theirs tokens all n limit l → (q : ℕ) → set.contains l.acked q ≡ true → q < l.written
-acked_written mine theirs tokens all n limit l h q is =
+pub acked_written : (mine theirs : Packets) (tokens : ℕ → Bool) (broken : Bool) (all : List ℕ) (n limit : ℕ) (l : SendLane) → SendTrue mine theirs tokens broken all n limit l → (q : ℕ) → set.contains l.acked q ≡ true → q < l.written
+acked_written mine theirs tokens broken all n limit l h q is =
     let (k, offset, bytes, fin, holds, low, high, ack) = h.acked q is in
     let below : offset + length bytes ≤ l.sent_end = (h.told offset bytes fin (k, holds)).below in
     let written : l.sent_end ≤ l.written = h.sent_written in
     omega arith
 
 -- what is written after an end that wasn't asked for
-pub write_ok : (mine theirs : Packets) (tokens : ℕ → Bool) (all bytes : List ℕ) (n limit : ℕ) (l : SendLane) → SendTrue mine theirs tokens all n limit l → l.was_reset ≡ None → l.finished ≡ false → SendTrue mine theirs tokens (all ++ bytes) n limit (write_lane l bytes)
-write_ok mine theirs tokens all bytes n limit l h none open_end =
+pub write_ok : (mine theirs : Packets) (tokens : ℕ → Bool) (broken : Bool) (all bytes : List ℕ) (n limit : ℕ) (l : SendLane) → SendTrue mine theirs tokens broken all n limit l → l.was_reset ≡ None → l.finished ≡ false → SendTrue mine theirs tokens broken (all ++ bytes) n limit (write_lane l bytes)
+write_ok mine theirs tokens broken all bytes n limit l h none open_end =
     let not_sent : l.fin_sent ≡ true → ⊥ = λ is. true≢false (sym (h.end is).0 ∙ open_end) in
-    let low : unacked_from l ≤ l.written = missing-le l.acked l.written (acked_written mine theirs tokens all n limit l h) in
+    let low : unacked_from l ≤ l.written = missing-le l.acked l.written (acked_written mine theirs tokens broken all n limit l h) in
     record {
       count = omega (arith, length-append all bytes, h.count);
       kept = λ _. ap (λ x. x ++ bytes) (h.kept none) ∙ sym (drop-joined (unacked_from l) all bytes (omega (arith, h.count)));
@@ -275,6 +290,7 @@ write_ok mine theirs tokens all bytes n limit l h none open_end =
       acked = h.acked;
       end_acked = h.end_acked;
       limit_told = h.limit_told;
+      reset_asked = h.reset_asked;
     }
 
 -- bytes are written to one stream
@@ -288,16 +304,16 @@ module _ (p : Past) (e : End) (n : ℕ) (ok : EndOk p e) where
       record { no_bytes = same ∙ h.no_bytes; no_stream = h.no_stream; no_reset = h.no_reset; no_blocked = h.no_blocked }
   other_slot bytes m ne (Some l) h =
       let same : p.bytes m ++ (if m == n then bytes else []) ≡ p.bytes m = (rw (ne_eqb m n ne) (append-nil (p.bytes m))) in
-      subst (λ x. SendTrue p.mine p.theirs p.tokens x m (first_send_limit e m) l) (sym same) h
+      subst (λ x. SendTrue p.mine p.theirs p.tokens (p.broken m) x m (first_send_limit e m) l) (sym same) h
 
   pub wrote_ok : (bytes : List ℕ) (l : SendLane) → lookup e.sends n ≡ Some l → l.was_reset ≡ None → l.finished ≡ false → EndOk (with_bytes p n bytes) (record e { sends = update e.sends n (write_lane l bytes) })
   wrote_ok bytes l is none open_end =
-      let this = write_ok p.mine p.theirs p.tokens (p.bytes n) bytes n (first_send_limit e n) l (subst (SendSlot p n (first_send_limit e n)) is (ok.sends n)) none open_end in
+      let this = write_ok p.mine p.theirs p.tokens (p.broken n) (p.bytes n) bytes n (first_send_limit e n) l (subst (SendSlot p n (first_send_limit e n)) is (ok.sends n)) none open_end in
       without_sum (with_bytes p n bytes) (record e { sends = update e.sends n (write_lane l bytes) }) (all_sent e) (all_sent (record e { sends = update e.sends n (write_lane l bytes) }))
       (end_anew ok
       (slots_updated (λ m o. SendSlot (with_bytes p n bytes) m (first_send_limit e m) o) e.sends n l (write_lane l bytes) is
       (λ m ne. other_slot bytes m ne (lookup e.sends m) (ok.sends m))
-      (subst (λ b. SendTrue p.mine p.theirs p.tokens (p.bytes n ++ (if b then bytes else [])) n (first_send_limit e n) (write_lane l bytes)) (sym (eq-eqb n n refl)) this))
+      (subst (λ b. SendTrue p.mine p.theirs p.tokens (p.broken n) (p.bytes n ++ (if b then bytes else [])) n (first_send_limit e n) (write_lane l bytes)) (sym (eq-eqb n n refl)) this))
       ok.credit
       (subst (λ s. OpenOk p e.role e.peer.streams_bidi e.peer.streams_uni e.known_bidi e.known_uni s (is_open e.recvs)) (sym (open_update e.sends n l (write_lane l bytes) is)) ok.streams))
       (omega (arith, total_update (λ x. x.sent_end) e.sends n l (write_lane l bytes) is, ok.credit.sent_known))

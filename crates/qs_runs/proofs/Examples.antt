@@ -8,7 +8,7 @@ use Rattle.qs_calls.specs.declared.token.Taken.TheVariants.{NotOurs}
 use Rattle.qs_machine.specs.Alone.{TakeBy}
 use Rattle.qs_runs.specs.Logs.{effects}
 use Rattle.qs_runs.specs.Worlds.{end_of}
-use Rattle.qs_runs.specs.Examples.{StoryIsRead, BytesAreRead, EndsAreTold, PacketsAreRead, TokensAreRead, PingComesAlone, Examples}
+use Rattle.qs_runs.specs.Examples.{StoryIsRead, BytesAreRead, EndsAreTold, BreaksAreTold, PacketsAreRead, TokensAreRead, PingComesAlone, Examples}
 
 story : (text : List ℕ) → StoryIsRead text
 unfolding effects
@@ -37,6 +37,10 @@ bytes = grind (arith, nat_tests)
 ends : EndsAreTold
 unfolding effects
 ends = grind (arith, nat_tests)
+
+breaks : BreaksAreTold
+unfolding effects
+breaks = record { own = refl; not_another = refl; not_at_the_peer = refl; stays = refl; refused = refl; not_stopped = refl }
 
 packets : (text : List ℕ) → PacketsAreRead text
 unfolding effects
@@ -70,4 +74,4 @@ ping_alone a b h w s run open_end = (
 )
 
 pub examples_hold : Examples
-examples_hold = record { story = story; bytes = bytes; ends = ends; packets = packets; tokens = tokens; ping_alone = ping_alone }
+examples_hold = record { story = story; bytes = bytes; ends = ends; breaks = breaks; packets = packets; tokens = tokens; ping_alone = ping_alone }

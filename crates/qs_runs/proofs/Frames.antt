@@ -53,6 +53,7 @@ new_send_ok p n id limit buffer h =
       acked = λ q is. absurd (false≢true (sym (set.contains-empty nat_cmp q) ∙ is));
       end_acked = λ is. absurd (false≢true is);
       limit_told = inl (omega arith);
+      reset_asked = λ is. absurd (false≢true is);
     }
 
 new_recv_ok : (p : Past) (n window : ℕ) (share : Share) → NotReceived p n → RecvOk p n window (new_recv_lane window share)
@@ -68,6 +69,7 @@ new_recv_ok p n window share h =
       ended = λ is. absurd (false≢true (sym h.no_end ∙ is));
       window_granted = omega arith;
       limit_told = λ limit t. absurd (h.no_limit limit t);
+      stop_asked = λ code t. absurd (h.no_stop code t);
     }
 
 -- the halves that begin
@@ -343,7 +345,7 @@ module _ (p : Past) where
   item_keeps e (StopSending n c) ok t fine =
       let opened = opened_ok p e n ok (named_by p _ n t refl) (is_own e n) refl in
       record {
-        ok = send_kept p (opened_by_peer n e) n opened (λ l. stop_taken e.tuning.answers_stops l c) (λ l is h. (stopped_ok p n _ l h e.tuning.answers_stops c, stopped_end p n _ l h e.tuning.answers_stops c));
+        ok = send_kept p (opened_by_peer n e) n opened (λ l. stop_taken e.tuning.answers_stops l c) (λ l is h. (stopped_ok p n _ l h e.tuning.answers_stops c t, stopped_end p n _ l h e.tuning.answers_stops c));
         grow = opened_grows p e n ok (is_own e n);
         taken = tt;
       }

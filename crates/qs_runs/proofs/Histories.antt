@@ -33,7 +33,7 @@ use Rattle.qs_calls.specs.declared.closing.Closed.{Closed}
 use Rattle.qs_machine.specs.EndStep.{Call, Answer, EndStep, Receive, TakeFrame, TakeFrames, TokenAcked, Make}
 use Rattle.qs_machine.proofs.Pieces.{All_at}
 use Rattle.qs_machine.proofs.Plains.{differ_covers, differ_turned, close_comes}
-use Rattle.qs_runs.specs.Logs.{Happening, History, Effect, Wrote, Gave, Ended, Stopped, Sent, Came, CameAlone, Acked, NotedClosed, other, same_side, acked_effects, effects_of, effects, wrote_in, gave_in, stops_in, ends_first, sent_in, comes_in, took_in, acks_in, is_in, made, payload, taken, closes_in, was_noted_closed, must_land, HasMade, HasLanded}
+use Rattle.qs_runs.specs.Logs.{Happening, History, Effect, Wrote, Gave, Ended, Stopped, BrokeOff, Sent, Came, CameAlone, Acked, NotedClosed, other, same_side, acked_effects, effects_of, effects, wrote_in, gave_in, stops_in, breaks_in, ends_first, sent_in, comes_in, took_in, acks_in, is_in, made, payload, taken, closes_in, was_noted_closed, must_land, HasMade, HasLanded}
 use Rattle.qs_runs.specs.Worlds.{World, end_of, IsFrom, IsPayload, May}
 use Rattle.qs_runs.specs.Invariant.{HasNoFault, WorldOk}
 use Rattle.qs_runs.specs.Pasts.{Past, past_of, past, packets_in, Holds, Tells, WasConfirmed, Landed}
@@ -98,6 +98,7 @@ with_one x xs p =
       bytes = λ n. flat_map (wrote_in n) xs ++ wrote_in n x;
       gave = λ n. flat_map (gave_in n) xs ++ gave_in n x;
       stopped = λ n. if stops_in n x then true else list_any (stops_in n) xs;
+      broken = λ n. if breaks_in n x then true else list_any (breaks_in n) xs;
       ended = λ n. if tells_end n x && not (list_any (stops_in n) xs) then true else ends_first n xs;
       processed = λ k. if comes_in k x then true else list_any (comes_in k) xs;
       taken = flat_map took_in xs ++ took_in x;
@@ -117,6 +118,7 @@ module _ (xs ys : List Effect) where
   one_is (Gave n bytes) = λ i. record (with_effect (Gave n bytes) before) { mine = no_packets i; bytes = λ m. append-nil (before.bytes m) i; taken = append-nil before.taken i }
   one_is (Ended n) = λ i. record (with_effect (Ended n) before) { mine = no_packets i; bytes = λ m. append-nil (before.bytes m) i; gave = λ m. append-nil (before.gave m) i; taken = append-nil before.taken i }
   one_is (Stopped n) = λ i. record (with_effect (Stopped n) before) { mine = no_packets i; bytes = λ m. append-nil (before.bytes m) i; gave = λ m. append-nil (before.gave m) i; taken = append-nil before.taken i }
+  one_is (BrokeOff n) = λ i. record (with_effect (BrokeOff n) before) { mine = no_packets i; bytes = λ m. append-nil (before.bytes m) i; gave = λ m. append-nil (before.gave m) i; taken = append-nil before.taken i }
   one_is (Sent text) = λ i. record (with_effect (Sent text) before) { mine = map-append frames_in (flat_map sent_in xs) (text ∷ []) i; bytes = λ m. append-nil (before.bytes m) i; gave = λ m. append-nil (before.gave m) i; taken = append-nil before.taken i }
   one_is (Came k bytes) = λ i. record (with_effect (Came k bytes) before) { mine = no_packets i; bytes = λ m. append-nil (before.bytes m) i; gave = λ m. append-nil (before.gave m) i }
   one_is (CameAlone frames) = λ i. record (with_effect (CameAlone frames) before) { mine = no_packets i; bytes = λ m. append-nil (before.bytes m) i; gave = λ m. append-nil (before.gave m) i }
@@ -131,6 +133,7 @@ module _ (xs ys : List Effect) where
         bytes = λ n. one_more x (wrote_in n) xs i;
         gave = λ n. one_more x (gave_in n) xs i;
         stopped = λ n. any_more x (stops_in n) xs i;
+        broken = λ n. any_more x (breaks_in n) xs i;
         ended = λ n. ends_more x n xs i;
         processed = λ k. any_more x (comes_in k) xs i;
         taken = one_more x took_in xs i;

@@ -35,7 +35,7 @@ FrameTrue p e (Stream n offset bytes fin) = (l : SendLane) × (lookup e.sends n 
 FrameTrue p e (Control (MaxData m)) = m ≤ e.granted
 FrameTrue p e (Control (MaxStreamData n m)) = (l : RecvLane) × (lookup e.recvs n ≡ Some l) × (m ≤ l.limit)
 FrameTrue p e (Control (ResetStream n code size)) = (l : SendLane) × (lookup e.sends n ≡ Some l) × (l.was_reset ≡ Some (record { code = code; size = size }))
-FrameTrue p e (Control (StopSending n code)) = (l : RecvLane) × (lookup e.recvs n ≡ Some l)
+FrameTrue p e (Control (StopSending n code)) = (l : RecvLane) × (lookup e.recvs n ≡ Some l) × (l.stop_code ≡ Some code)
 FrameTrue p e (Control (StreamDataBlocked n m)) = (l : SendLane) × (lookup e.sends n ≡ Some l)
 FrameTrue p e (Close code) = ⊥
 FrameTrue p e (Plain asks) = asks ≡ true
@@ -79,6 +79,7 @@ module _ (p : Past) (more : Packets) (e : End) (sent : ℕ) (f : Seen)
         acked = λ q is. (let (k, offset, bytes, fin, holds, low, high, ack) = h.acked q is in (k, offset, bytes, fin, up k _ holds, low, high, ack));
         end_acked = λ is. (let (k, offset, bytes, holds, ack) = h.end_acked is in (k, offset, bytes, up k _ holds, ack));
         limit_told = h.limit_told;
+        reset_asked = h.reset_asked;
       }
 
   recv_put : (n : ℕ) (o : Option RecvLane) → lookup e.recvs n ≡ o → RecvSlot p n (first_window e n) o → RecvSlot (record p { mine = more }) n (first_window e n) o
@@ -88,7 +89,7 @@ module _ (p : Past) (more : Packets) (e : End) (sent : ℕ) (f : Seen)
         no_end = h.no_end;
         not_stopped = h.not_stopped;
         no_limit = λ limit t. elim (down _ t) [ inl old ↦ h.no_limit limit old | inr new ↦ (let (l, is, c) = true_of _ new in none-some l (sym at ∙ is)) ];
-        no_stop = λ code t. elim (down _ t) [ inl old ↦ h.no_stop code old | inr new ↦ (let (l, is) = true_of _ new in none-some l (sym at ∙ is)) ];
+        no_stop = λ code t. elim (down _ t) [ inl old ↦ h.no_stop code old | inr new ↦ (let (l, is, c) = true_of _ new in none-some l (sym at ∙ is)) ];
       }
   recv_put n (Some l) at h =
       record {
@@ -105,7 +106,15 @@ module _ (p : Past) (more : Packets) (e : End) (sent : ℕ) (f : Seen)
           | inl old ↦ h.limit_told limit old
           | inr new ↦ (let (m, is, c) = true_of _ new in subst (λ x. limit ≤ x.limit) (same_Some m l (sym is ∙ at)) c)
         ];
+        stop_asked = λ code t. elim (down _ t) [
+          | inl old ↦ h.stop_asked code old
+          | inr new ↦ (let (m, is, c) = true_of _ new in was_stopped code (p.stopped n) refl (ap (λ x. x.stop_code) (same_Some l m (sym at ∙ is)) ∙ c))
+        ];
       }
+    where
+      was_stopped : (code : ℕ) (b : Bool) → p.stopped n ≡ b → l.stop_code ≡ Some code → p.stopped n ≡ true
+      was_stopped code true e is = e
+      was_stopped code false e is = absurd (none-some code (sym (h.not_stopped e) ∙ is))
 
   piece_up : (k : ℕ) (x : Piece) → PieceOf p.mine k x → PieceOf more k x
   piece_up k x h = grind (arith, nat_tests)
@@ -158,10 +167,10 @@ module _ (ms : Packets) (pre : List Seen) (f : Seen) where
   packet_has = (pre ++ f ∷ [], slice_get-last ms (pre ++ f ∷ []), Among_last pre f)
 
 -- The half after a chunk of it was sent, within its limit and what was written.
-module _ (mine theirs : Packets) (tokens : ℕ → Bool) (all : List ℕ) (n limit : ℕ) (l : SendLane) (h : SendTrue mine theirs tokens all n limit l) (c : Chunk)
+module _ (mine theirs : Packets) (tokens : ℕ → Bool) (broken : Bool) (all : List ℕ) (n limit : ℕ) (l : SendLane) (h : SendTrue mine theirs tokens broken all n limit l) (c : Chunk)
     (none : l.was_reset ≡ None) (inside : c.offset + c.len ≤ l.written) (within : c.offset + c.len ≤ l.limit)
     (end : c.fin ≡ true → (l.finished ≡ true) × (c.offset + c.len ≡ l.written)) where
-  sent_ok : SendTrue mine theirs tokens all n limit (sent_lane l c)
+  sent_ok : SendTrue mine theirs tokens broken all n limit (sent_lane l c)
   sent_ok =
       record {
         count = h.count;
@@ -178,6 +187,7 @@ module _ (mine theirs : Packets) (tokens : ℕ → Bool) (all : List ℕ) (n lim
         acked = h.acked;
         end_acked = h.end_acked;
         limit_told = h.limit_told;
+        reset_asked = h.reset_asked;
       }
 
   -- what was put in the packet is true of the half then: a due offset isn't below the kept bytes
@@ -220,7 +230,7 @@ module _ (p : Past) (pre : List Seen) where
   item_true e (MaxData m) (is, more) = omega arith
   item_true e (MaxStreamData n m) (l, lane, is, more, unknown) = (l, lane, omega arith)
   item_true e (ResetStream n code size) c = c
-  item_true e (StopSending n code) c = (c.0, c.1)
+  item_true e (StopSending n code) c = (c.0, c.1, c.2)
   item_true e (StreamDataBlocked n m) c = (c.0, c.1)
   item_true e _ c = tt
 
@@ -243,11 +253,11 @@ module _ (p : Past) (old : End) (kept : (k : ℕ) → set.contains old.done k �
   put_stream pre e n offset bytes fin l may at ok =
       let f : Seen = Stream n offset bytes fin in
       let c : Chunk = chunk_of offset bytes fin in
-      let h : SendTrue (p.mine ++ pre ∷ []) p.theirs p.tokens (p.bytes n) n (first_send_limit e n) l = subst (SendSlot (with_packet p pre) n (first_send_limit e n)) may.lane (ok.sends n) in
+      let h : SendTrue (p.mine ++ pre ∷ []) p.theirs p.tokens (p.broken n) (p.bytes n) n (first_send_limit e n) l = subst (SendSlot (with_packet p pre) n (first_send_limit e n)) may.lane (ok.sends n) in
       let end : fin ≡ true → (l.finished ≡ true) × (offset + length bytes ≡ l.written) = λ is. ((may.end is).0.finished, (may.end is).1) in
       let m : SendLane = sent_lane l c in
-      let moved = sent_ok _ _ _ _ n (first_send_limit e n) l h c may.no_reset may.inside may.within end in
-      let chunk = chunk_true _ _ _ _ n (first_send_limit e n) l h c may.no_reset may.inside may.within end bytes refl may.bytes_are (λ q low high. (may.due q low high).not_acked) in
+      let moved = sent_ok _ _ _ _ _ n (first_send_limit e n) l h c may.no_reset may.inside may.within end in
+      let chunk = chunk_true _ _ _ _ _ n (first_send_limit e n) l h c may.no_reset may.inside may.within end bytes refl may.bytes_are (λ q low high. (may.due q low high).not_acked) in
       let e' : End = record e { sends = update e.sends n m } in
       let ok' : EndHas (with_packet p pre) (counted e') 0 = lane_changed _ (counted e) 0 n l m ok may.lane moved in
       let put : EndHas (with_packet p (pre ++ f ∷ [])) (counted e') 0 = packet_put p pre (counted e') f ok' (m, lookup_same e.sends n l m may.lane, chunk) (ap (λ x. x + 1) at) in

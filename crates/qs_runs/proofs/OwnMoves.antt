@@ -12,7 +12,7 @@ use Rattle.qs_runs.specs.Pasts.{Past, PieceOf, TellsEnd, Tells}
 use Rattle.qs_runs.specs.Invariant.{EndOk, StoodIn, RecvTrue, RecvSlot, RecvOk, SendOk, SendSlot, OpenOk, is_open}
 use Rattle.qs_runs.proofs.Lists.{Among_push, Among_take}
 use Rattle.qs_runs.proofs.Members.{get-inserted, get-removed}
-use Rattle.qs_runs.proofs.Acking.{one_less_ok, with_records, reset_ok, reset_end}
+use Rattle.qs_runs.proofs.Acking.{one_less_ok, with_records, was_reset_ok}
 use Rattle.std.proofs.lemmas.Option.{none-some, slice_get-map}
 use Rattle.std.proofs.lemmas.Bool.{eq-eqb, ne_eqb, leb-false}
 use Rattle.qs_wire.specs.declared.stream_id.Dir.{Dir}
@@ -181,14 +181,14 @@ module _ (p : Past) (e new : End) (ok : EndOk p e) where
   finish_moves n answer step =
       elim (certain_cases (send_refusal e n refusal) e answer new _ step) [
         | inl (fault, is, same) ↦ ended_by p e new same ok
-        | inr (allowed, (is, same)) ↦ ended_by p _ new same (settle_ok p _ (send_kept p e n ok finish_lane (λ l there h. (send_alike h (λ is. refl) (λ k ack. ack) h.sent_limit h.limit_told, refl))))
+        | inr (allowed, (is, same)) ↦ ended_by p _ new same (settle_ok p _ (send_kept p e n ok finish_lane (λ l there h. (send_alike h (λ own. own) (λ is. refl) (λ f t. t) (λ k ack. ack) h.sent_limit h.limit_told, refl))))
       ]
 
-  reset_moves : (n code : ℕ) (answer : Result (Unit {0}) UseFault) → ResetStep e n code answer new → EndOk p new
+  reset_moves : (n code : ℕ) (answer : Result (Unit {0}) UseFault) → ResetStep e n code answer new → EndOk (with_effects (effects_of (Reset n code) answer) p) new
   reset_moves n code answer step =
       elim (certain_cases (send_refusal e n reset_refusal) e answer new _ step) [
-        | inl (fault, is, same) ↦ ended_by p e new same ok
-        | inr (allowed, (is, same)) ↦ ended_by p _ new same (settle_ok p _ (send_kept p e n ok (λ m. reset_lane m code) (λ l there h. (reset_ok p n (first_send_limit e n) l h code, reset_end p n (first_send_limit e n) l h code))))
+        | inl (fault, is, same) ↦ subst (λ a. EndOk (with_effects (effects_of (Reset n code) a) p) new) (sym is) (ended_by p e new same ok)
+        | inr (allowed, (is, same)) ↦ subst (λ a. EndOk (with_effects (effects_of (Reset n code) a) p) new) (sym is) (ended_by _ _ new same (settle_ok _ _ (was_reset_ok p e n ok code)))
       ]
 
   -- Receiving

@@ -2,7 +2,7 @@
 use Rattle.std.proofs.Common.{◌≡◌, ℕ, Bool, true, not, ◌&&◌, ◌==◌, if◌then◌else◌, List, [], ◌∷◌, ◌++◌, inl, inr, refl, sym, ◌∙◌, append-nil, append_assoc}
 use Rattle.qs_machine.specs.Seen.{Seen, seen_all}
 use Rattle.qs_machine.specs.Plains.{frames_in}
-use Rattle.qs_runs.specs.Logs.{Effect, Wrote, Gave, Ended, Stopped, Sent, Came, CameAlone, Acked, NotedClosed, is_in}
+use Rattle.qs_runs.specs.Logs.{Effect, Wrote, Gave, Ended, Stopped, BrokeOff, Sent, Came, CameAlone, Acked, NotedClosed, is_in}
 use Rattle.qs_runs.specs.Pasts.{Past, Packets, Holds, Tells, TellsOffset, TellsByte, TellsEnd, TellsAck, WasConfirmed, IsNamed, packets_in}
 use Rattle.qs_runs.proofs.Lists.{slice_get-append}
 
@@ -37,6 +37,7 @@ with_effect (Wrote n bytes) p = record p { bytes = λ m. p.bytes m ++ (if m == n
 with_effect (Gave n bytes) p = record p { gave = λ m. p.gave m ++ (if m == n then bytes else []) }
 with_effect (Ended n) p = record p { ended = λ m. if m == n && not (p.stopped m) then true else p.ended m }
 with_effect (Stopped n) p = record p { stopped = λ m. if m == n then true else p.stopped m }
+with_effect (BrokeOff n) p = record p { broken = λ m. if m == n then true else p.broken m }
 with_effect (Sent text) p = record p { mine = p.mine ++ frames_in text ∷ [] }
 with_effect (Came k bytes) p = record p { processed = λ j. if j == k then true else p.processed j; taken = p.taken ++ frames_in bytes }
 with_effect (CameAlone frames) p = record p { taken = p.taken ++ seen_all frames }
@@ -60,6 +61,7 @@ effects_made (Wrote n bytes ∷ xs) p = effects_made xs (with_effect (Wrote n by
 effects_made (Gave n bytes ∷ xs) p = effects_made xs (with_effect (Gave n bytes) p)
 effects_made (Ended n ∷ xs) p = effects_made xs (with_effect (Ended n) p)
 effects_made (Stopped n ∷ xs) p = effects_made xs (with_effect (Stopped n) p)
+effects_made (BrokeOff n ∷ xs) p = effects_made xs (with_effect (BrokeOff n) p)
 effects_made (Came k bytes ∷ xs) p = effects_made xs (with_effect (Came k bytes) p)
 effects_made (CameAlone frames ∷ xs) p = effects_made xs (with_effect (CameAlone frames) p)
 effects_made (Acked token ∷ xs) p = effects_made xs (with_effect (Acked token) p)

@@ -15,7 +15,7 @@ with_theirs p more = record p { theirs = p.theirs ++ more }
 module _ (p : Past) (more : Packets) where
   send_slot : (n limit : ℕ) (o : Option SendLane) → SendSlot p n limit o → SendSlot (with_theirs p more) n limit o
   send_slot n limit None h = h
-  send_slot n limit (Some l) h = send_alike h (λ is. is) (λ k ack. Confirmed-more p.theirs more p.tokens k ack) h.sent_limit (elim h.limit_told [ inl e ↦ inl e | inr t ↦ inr (Tells-more p.theirs more _ t) ])
+  send_slot n limit (Some l) h = send_alike h (λ own. own) (λ is. is) (λ f t. Tells-more p.theirs more f t) (λ k ack. Confirmed-more p.theirs more p.tokens k ack) h.sent_limit (elim h.limit_told [ inl e ↦ inl e | inr t ↦ inr (Tells-more p.theirs more _ t) ])
 
   recv_slot : (n window : ℕ) (o : Option RecvLane) → RecvSlot p n window o → RecvSlot (with_theirs p more) n window o
   recv_slot n window None h = h
@@ -31,6 +31,7 @@ module _ (p : Past) (more : Packets) where
         ended = λ is. (let (size, read, final, t) = h.ended is in (size, read, final, TellsEnd-more p.theirs more n size t));
         window_granted = h.window_granted;
         limit_told = h.limit_told;
+        stop_asked = h.stop_asked;
       }
 
   pub peer_moves : (e : End) → EndOk p e → EndOk (with_theirs p more) e

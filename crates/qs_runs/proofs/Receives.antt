@@ -18,7 +18,8 @@ use Rattle.qs_calls.specs.declared.closing.Closed.TheVariants.{ByUs, ByPeer}
 use Rattle.qs_calls.specs.declared.closing.Closed.TheVariants as closings
 use Rattle.qs_calls.specs.declared.closing.Received.{Received}
 use Rattle.qs_calls.specs.declared.closing.Received.TheVariants.{Done, Duplicate, BelowFloor, PeerClosed, NoMemory}
-use Rattle.qs_machine.specs.Ends.{End, on_recv, closes, is_own, opens, opened_by_peer}
+use Rattle.qs_send.specs.Lane.{SendLane}
+use Rattle.qs_machine.specs.Ends.{End, first_send_limit, on_recv, closes, is_own, opens, opened_by_peer}
 use Rattle.qs_machine.specs.Seen.{Seen, Ack, Close, seen, seen_all, asks_ack, Stream, Control}
 use Rattle.qs_machine.specs.FrameStep.{named, frame_taken, is_named, item_taken}
 use Rattle.qs_machine.specs.Recording.{recorded, has_too_many, lowest_end, least_in}
@@ -36,7 +37,7 @@ use Rattle.qs_runs.specs.Agree.{IsOld}
 use Rattle.qs_runs.proofs.Lists.{Among_right}
 use Rattle.qs_runs.proofs.Members.{insert-cases, insert-old, insert-new, cut-cases, cut-kept, run-cases, run-old, below-end, end-le}
 use Rattle.qs_runs.specs.Pasts.{Past, Tells}
-use Rattle.qs_runs.specs.Invariant.{EndOk, FrameTaken}
+use Rattle.qs_runs.specs.Invariant.{EndOk, SendSlot, FrameTaken}
 use Rattle.qs_runs.proofs.Changes.{send_alike, AllGrow, all_grow_refl, grow_trans, frame_stays, Grows, settle_ok, each_grows, raise_grows}
 use Rattle.qs_runs.proofs.Acking.{acks_ok, named_pieces_ok, WasAcked}
 use Rattle.qs_machine.proofs.Leaves.{put_leaves, frame_leaves, acks_leave, stops_leave, end_leaves}
@@ -322,7 +323,13 @@ module _ (p : Past) (old : End) (fine : (mid : End) → EndOk p mid → IsThere 
 
 -- an end is told more tokens
 token_ok : (p : Past) (t : Token) (e : End) → EndOk p e → EndOk (with_effect (Acked t) p) e
-token_ok p t e ok = grind (arith, nat_tests, with_effect, or_cond, send_alike)
+token_ok p t e ok =
+    record { sends = λ n. slot n (lookup e.sends n) (ok.sends n); recvs = ok.recvs; packets = ok.packets; taken = ok.taken; credit = ok.credit; streams = ok.streams }
+  where
+    slot : (n : ℕ) (o : Option SendLane) → SendSlot p n (first_send_limit e n) o → SendSlot (with_effect (Acked t) p) n (first_send_limit e n) o
+    slot n None h = h
+    slot n (Some l) h =
+        send_alike h (λ own. own) (λ is. is) (λ f told. told) (λ k ack. elim ack [ inl named ↦ inl named | inr told ↦ inr (or_cond (is_in t k) (p.tokens k) told) ]) h.sent_limit h.limit_told
 
 named_alone : (t : Token) (j : ℕ) → is_named ((t.first, t.number) ∷ []) j ≡ true → is_in t j ≡ true
 named_alone t j h = elim (or_cases _ _ h) [ inl both ↦ both | inr none ↦ absurd (false≢true none) ]

@@ -89,6 +89,7 @@ module _ (p : Past) (n window : ℕ) (l : RecvLane) (h : RecvOk p n window l) wh
           ended = λ is. (let (size, read, final, told) = h.ended is in (size, read_same ∙ read, final_stays fin refl size final, told));
           window_granted = h.window_granted;
           limit_told = h.limit_told;
+          stop_asked = h.stop_asked;
         }
 
     pub take_stream_grows : Grows l (take_stream l offset bytes fin)
@@ -120,6 +121,7 @@ module _ (p : Past) (n window : ℕ) (l : RecvLane) (h : RecvOk p n window l) wh
           ended = λ is. (let (known, read, final, told) = h.ended is in (known, read, ap Some (fits known final), told));
           window_granted = h.window_granted;
           limit_told = h.limit_told;
+          stop_asked = h.stop_asked;
         }
 
     pub take_reset_grows : (b : Bool) → Grows l (if b then l else when_reset)

@@ -22,10 +22,10 @@ use Rattle.qs_calls.specs.declared.event.Side.TheVariants.{A, B}
 use Rattle.qs_machine.specs.SmallEnds.{abc}
 use Rattle.qs_machine.specs.Seen.{Control, Plain}
 use Rattle.qs_machine.specs.Setting.{Setting}
-use Rattle.qs_machine.specs.EndStep.{Call, Answer, AcceptOf, Write, Stop, StopAndDiscard, ReadUpTo, Consume, Receive, TakeFrame, TakeFrames, TokenAcked, TokenLost, Make, MakeAck, FillIn, Claim, RaiseLimits, Set, NoteClosed}
+use Rattle.qs_machine.specs.EndStep.{Call, Answer, AcceptOf, Write, Reset, Stop, StopAndDiscard, ReadUpTo, Consume, Receive, TakeFrame, TakeFrames, TokenAcked, TokenLost, Make, MakeAck, FillIn, Claim, RaiseLimits, Set, NoteClosed}
 use Rattle.qs_calls.specs.declared.settings.Settings.{Settings}
 use Rattle.qs_runs.specs.Worlds.{World, end_of, Run}
-use Rattle.qs_runs.specs.Logs.{Happening, History, written, read, read_whole, stopped, made, payload, processed, taken, was_acked, was_noted_closed}
+use Rattle.qs_runs.specs.Logs.{Happening, History, written, read, read_whole, stopped, broken_off, made, payload, processed, taken, was_acked, was_noted_closed}
 
 -- a call of an end, with its answer
 abbrev pub at : Side → (call : Call) → Answer call → Happening
@@ -120,6 +120,22 @@ pub record EndsAreTold : Type 0 where
   pub forgotten : stopped B 0 (at B (StopAndDiscard 0 7) (Ok tt) ∷ []) ≡ true
   pub refused : stopped B 0 (at B (Stop 0 7) (Err NoSuchStream) ∷ []) ≡ false
 
+-- a stream is reset
+abbrev pub reset : Side → ℕ → Happening
+reset side stream = at side (Reset stream 7) (Ok tt)
+
+-- Who broke off
+pub record BreaksAreTold : Type 0 where
+  -- a writer that reset its stream, that one and at that end
+  pub own : broken_off A 0 (reset A 0 ∷ []) ≡ true
+  pub not_another : broken_off A 0 (reset A 4 ∷ []) ≡ false
+  pub not_at_the_peer : broken_off B 0 (reset A 0 ∷ []) ≡ false
+  -- whatever comes later, and none that was refused
+  pub stays : broken_off A 0 (wrote A abc 3 ∷ reset A 0 ∷ []) ≡ true
+  pub refused : broken_off A 0 (at A (Reset 0 7) (Err NoSuchStream) ∷ []) ≡ false
+  -- a reader that stops breaks nothing off by that
+  pub not_stopped : broken_off B 0 (stop B ∷ []) ≡ false
+
 -- What is made and comes
 pub record PacketsAreRead (text : List ℕ) : Type 0 where
   -- under a claimed number a PING goes
@@ -186,6 +202,7 @@ pub record Examples : Type 0 where
   pub story : (text : List ℕ) → StoryIsRead text
   pub bytes : BytesAreRead
   pub ends : EndsAreTold
+  pub breaks : BreaksAreTold
   pub packets : (text : List ℕ) → PacketsAreRead text
   pub tokens : TokensAreRead
   pub ping_alone : PingComesAlone

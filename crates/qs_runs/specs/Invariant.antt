@@ -43,8 +43,8 @@ pub record ChunkTrue (all : List ℕ) (count sent_end : ℕ) (fin_sent : Bool) (
   pub below : offset + length bytes ≤ sent_end
   pub end : fin ≡ true → (fin_sent ≡ true) × (offset + length bytes ≡ count)
 
--- A sending half, against what was written to it and what was sent of it.
-pub record SendTrue (mine theirs : Packets) (tokens : ℕ → Bool) (all : List ℕ) (n limit : ℕ) (l : SendLane) : Type 0 where
+-- A sending half, against what was written to it and what was sent of it, and whether its owner reset it.
+pub record SendTrue (mine theirs : Packets) (tokens : ℕ → Bool) (broken : Bool) (all : List ℕ) (n limit : ℕ) (l : SendLane) : Type 0 where
   pub count : length all ≡ l.written
   pub kept : l.was_reset ≡ None → l.kept ≡ drop (unacked_from l) all
   pub sent_written : l.sent_end ≤ l.written
@@ -58,9 +58,10 @@ pub record SendTrue (mine theirs : Packets) (tokens : ℕ → Bool) (all : List 
       (k offset : ℕ) × (bytes : List ℕ) × (fin : Bool) × Holds mine k (Stream n offset bytes fin) × (offset ≤ q) × (q < offset + length bytes) × WasConfirmed theirs tokens k
   pub end_acked : l.fin_acked ≡ true → (k offset : ℕ) × (bytes : List ℕ) × Holds mine k (Stream n offset bytes true) × WasConfirmed theirs tokens k
   pub limit_told : (l.limit ≤ limit) ⊎ Tells theirs (Control (MaxStreamData n l.limit))
+  pub reset_asked : is_some l.was_reset ≡ true → (broken ≡ true) ⊎ ((code : ℕ) × Tells theirs (Control (StopSending n code)))
 
 abbrev pub SendOk : Past → ℕ → ℕ → SendLane → Type 0
-SendOk p n limit l = SendTrue p.mine p.theirs p.tokens (p.bytes n) n limit l
+SendOk p n limit l = SendTrue p.mine p.theirs p.tokens (p.broken n) (p.bytes n) n limit l
 
 -- No frame speaks of a stream on which this end doesn't send.
 pub record NeverSent (mine : Packets) (all : List ℕ) (n : ℕ) : Type 0 where
@@ -94,6 +95,7 @@ pub record RecvTrue (mine theirs : Packets) (given : List ℕ) (was_stopped was_
   pub ended : was_ended ≡ true → (size : ℕ) × (l.arrived.read_count ≡ size) × (l.final_size ≡ Some size) × TellsEnd theirs n size
   pub window_granted : window ≤ l.limit
   pub limit_told : (limit : ℕ) → Tells mine (Control (MaxStreamData n limit)) → limit ≤ l.limit
+  pub stop_asked : (code : ℕ) → Tells mine (Control (StopSending n code)) → was_stopped ≡ true
 
 abbrev pub RecvOk : Past → ℕ → ℕ → RecvLane → Type 0
 RecvOk p n window l = RecvTrue p.mine p.theirs (p.gave n) (p.stopped n) (p.ended n) n window l

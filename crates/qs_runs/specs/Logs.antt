@@ -41,13 +41,14 @@ same_side B A = false
 same_side B B = true
 
 -- What a call did that the other end or the owner knows of: bytes of a stream were accepted; some were given to its reader; its end was
--- told to it; it stopped; a payload went out; one that came under that number took effect in whole, or frames did without one; packets were told to be
--- acknowledged; the end was told of a close.
+-- told to it; it stopped; its writer broke it off; a payload went out; one that came under that number took effect in whole, or frames did
+-- without one; packets were told to be acknowledged; the end was told of a close.
 pub data Effect : Type 0 where
   Wrote : (stream : ℕ) (bytes : List ℕ) → Effect
   Gave : (stream : ℕ) (bytes : List ℕ) → Effect
   Ended : (stream : ℕ) → Effect
   Stopped : (stream : ℕ) → Effect
+  BrokeOff : (stream : ℕ) → Effect
   Sent : (text : List ℕ) → Effect
   Came : (number : ℕ) (bytes : List ℕ) → Effect
   CameAlone : (frames : List FrameValue) → Effect
@@ -99,7 +100,7 @@ effects_of Accept answer = []
 effects_of (AcceptOf d) answer = []
 effects_of (Write n bytes) answer = if_ok answer (λ count. Wrote n (take count bytes) ∷ [])
 effects_of (Finish n) answer = []
-effects_of (Reset n code) answer = []
+effects_of (Reset n code) answer = if_ok answer (λ done. BrokeOff n ∷ [])
 effects_of (Stop n code) answer = if_ok answer (λ done. Stopped n ∷ [])
 effects_of (StopAndDiscard n code) answer = if_ok answer (λ done. Stopped n ∷ [])
 effects_of (ReadUpTo n size) answer = if_ok answer.0 (λ value. read_effects n value answer.1)
@@ -154,6 +155,14 @@ stops_in n x = false
 
 abbrev pub stopped : Side → ℕ → History → Bool
 stopped s n h = list_any (stops_in n) (effects s h)
+
+-- the stream's writer broke it off by a reset
+abbrev pub breaks_in : ℕ → Effect → Bool
+breaks_in n (BrokeOff m) = n == m
+breaks_in n x = false
+
+abbrev pub broken_off : Side → ℕ → History → Bool
+broken_off s n h = list_any (breaks_in n) (effects s h)
 
 -- the stream's reader was told the end, and had not stopped before
 abbrev pub ends_first : ℕ → List Effect → Bool

@@ -10,21 +10,22 @@ use Rattle.qs_machine.specs.FrameStep.{is_named}
 use Rattle.qs_send.specs.Records.{Among}
 use Rattle.qs_calls.specs.declared.event.Side.{Side}
 use Rattle.qs_machine.specs.Plains.{frames_in}
-use Rattle.qs_runs.specs.Logs.{must_land, History, Effect, other, effects, wrote_in, gave_in, stops_in, ends_first, sent_in, comes_in, took_in, acks_in}
+use Rattle.qs_runs.specs.Logs.{must_land, History, Effect, other, effects, wrote_in, gave_in, stops_in, breaks_in, ends_first, sent_in, comes_in, took_in, acks_in}
 
 -- the frames of the packets of an end, by packet number
 abbrev pub Packets : Type 0
 Packets = List (List Seen)
 
 -- What one end lived through: the packets that it made and that its peer made; the bytes that were written to it and read from it on
--- each stream; whether `stop` was called of a stream, and whether `read` answered End before that; which packets it processed; which
--- frames it took, with their packets or without them; and of which packets it was told by a token that they were acknowledged.
+-- each stream; whether `stop` was called of a stream, and whether `read` answered End before that; whether `reset` was; which packets it
+-- processed; which frames it took, with their packets or without them; and of which packets it was told by a token that they were acknowledged.
 pub record Past : Type 0 where
   pub mine : Packets
   pub theirs : Packets
   pub bytes : ℕ → List ℕ
   pub gave : ℕ → List ℕ
   pub stopped : ℕ → Bool
+  pub broken : ℕ → Bool
   pub ended : ℕ → Bool
   pub processed : ℕ → Bool
   pub taken : List Seen
@@ -99,6 +100,7 @@ past_of xs ys =
       bytes = λ n. flat_map (wrote_in n) xs;
       gave = λ n. flat_map (gave_in n) xs;
       stopped = λ n. list_any (stops_in n) xs;
+      broken = λ n. list_any (breaks_in n) xs;
       ended = λ n. ends_first n xs;
       processed = λ k. list_any (comes_in k) xs;
       taken = flat_map took_in xs;
