@@ -176,6 +176,7 @@ def ask_the_rest():
     refuse(Frame(FrameKind.NEW_CONNECTION_ID, data=b"id", token=bytes(15)).put, InvalidError)
     fault = refuse(lambda: list(frames(b"\x01\x40")), BadFrameError).fault
     assert (fault.kind, fault.code, fault.place) == (FaultKind.TRUNCATED, 7, 1), fault
+    assert EventKind(99).name == "UNKNOWN_99"  # of a later library
     # DATA_BLOCKED of 5 at a limit that didn't rise: an event, from take_frames at once, from receive where that is chosen.
     owner = Endpoint(Role.SERVER, Settings(conn_window=5))
     owner.report_blocked(True)

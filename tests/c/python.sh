@@ -1,7 +1,7 @@
 # Read by tests/c/kind.sh: the package for Python, over the library that was installed in $usr. It finds the library by pkg-config, and where
 # pkg-config doesn't know it by a variable.
 # shellcheck shell=bash
-# shellcheck disable=SC2154  # (set by the reader)
+# shellcheck disable=SC2154  # (set by the reader, which also made a library of a later version in $later)
 awk '/^```$/ { shown = 0 } shown { print } /^```python$/ { shown = 1 }' "$root/docs/C.md" >"$room/files.py"
 by_variable=(PKG_CONFIG=false "GOTSAVENA_LIBRARY=$usr/lib/libgotsavena.so.0")
 by_pkg=(-u GOTSAVENA_LIBRARY "PKG_CONFIG_PATH=$usr/lib/pkgconfig")
@@ -10,7 +10,8 @@ in_python() { env "${@:2}" PYTHONPATH="$usr/python" PYTHONDONTWRITEBYTECODE=1 ti
 says_hello_in_python() { [ "$(in_python "$root/c/python/hello.py" "$@")" = "hello $kind" ]; }
 # It does what the example in C does, packet by packet.
 stack_in_python() { in_python "$root/c/python/stack.py" "${by_variable[@]}" >"$room/by-python" && "$room/stack" | cmp - "$room/by-python"; }
-calls_in_python() { env "${by_variable[@]}" PYTHONPATH="$usr/python" PYTHONDONTWRITEBYTECODE=1 "$python" "$tests/doctests"; }
+# calls_in_python LIBRARY
+calls_in_python() { env GOTSAVENA_LIBRARY="$1" PYTHONPATH="$usr/python" PYTHONDONTWRITEBYTECODE=1 "$python" "$tests/doctests"; }
 # By the program of docs/C.md: two files, of which one is longer than the windows, and an empty one.
 files_in_python() {
   head -c 3000000 /dev/urandom >"$room/one"
@@ -59,7 +60,8 @@ if [ -n "$python" ]; then
     try 'the example in Python, by pkg-config' says_hello_in_python "${by_pkg[@]}"
   fi
   try 'the stack in Python' stack_in_python
-  try 'the example of each call in Python' calls_in_python
+  try 'the example of each call in Python' calls_in_python "$usr/lib/libgotsavena.so.0"
+  try 'the example of each call in Python, over the later library' calls_in_python "$later/libgotsavena.so.0"
   try 'the files of docs/C.md in Python' files_in_python
   try 'Python without the library' says_no_library
   if has mypy 'the types of the package for Python'; then try 'the types of the package for Python' typed; fi
