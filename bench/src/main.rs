@@ -1,6 +1,6 @@
 //! Times one row: `gotsavena-bench ROW` runs it once to warm up, with each byte compared, and once timed, and prints the nanoseconds of a
 //! unit. `gotsavena-bench` alone lists the rows, each with its unit and its measure: `ns`, or `B` if the row measures memory. `bench/run`
-//! alternates it with the peers' drivers.
+//! alternates it with the peers' drivers. `gotsavena-bench --once ROW` runs it once, with each byte compared, and prints nothing.
 //! `gotsavena-bench --count WORK` does a small piece of work once and prints its units, under a counter of instructions.
 
 mod acts;
@@ -65,6 +65,12 @@ fn main() -> ExitCode {
     if name == "--count" {
         return count(std::env::args().nth(2));
     }
+    let is_once = name == "--once";
+    let name = if is_once {
+        std::env::args().nth(2).unwrap_or_default()
+    } else {
+        name
+    };
     if let Some(row) = idle::rows().iter().find(|row| row.name == name) {
         println!("{:.2}", (row.run)());
         return ExitCode::SUCCESS;
@@ -74,6 +80,9 @@ fn main() -> ExitCode {
         return ExitCode::from(2);
     };
     (row.run)();
+    if is_once {
+        return ExitCode::SUCCESS;
+    }
     pattern::check_no_more();
     let run = (row.run)();
     println!("{:.2}", run.time.as_nanos() as f64 / run.units as f64);
