@@ -773,10 +773,10 @@ GV_API gv_status gv_acked_below(const gv_endpoint *end, uint64_t stream, uint64_
  * each direction of which gv_open() returned ::GV_STREAM_LIMIT, each once until that happens again.
  *
  * The last three kinds come each time that the peer said so of a limit that hadn't risen by the end of the packet, once for all that it
- * said since the last one. They come from gv_take_frame() and gv_take_frames() once this was called. From gv_receive() they come only if
- * gv_report_blocked() chose so, since that reads payloads twice; it turns the other two on as well. Frames that are passed in twice report
- * twice. A stream whose length is known has none, since no limit moves then; one that was stopped does. A greater window helps:
- * gv_set_conn_window(), gv_set_stream_window() or gv_set_grant().
+ * said since the last one, even if the limit rose later. They come from gv_take_frame() and gv_take_frames() once this was called. From
+ * gv_receive() they come only if gv_report_blocked() chose so, since that reads payloads twice; it turns the other two on as well. Frames
+ * that are passed in twice report twice. A stream has none if its length was known by the end of the packet, since no limit moves then; one
+ * that was stopped does. A greater window helps: gv_set_conn_window(), gv_set_stream_window() or gv_set_grant().
  *
  * The others come at most once for a stream (sections 2 to 4). A closed endpoint reports no ::GV_EVENT_WRITABLE, no ::GV_EVENT_AVAILABLE
  * and none of the last three kinds, since none could be acted on, and ::GV_EVENT_READABLE only if reads_when_closed was chosen. */

@@ -537,7 +537,7 @@ static bool take_given(gvp_given *to, const gv_frame *frames, size_t count, size
   return true;
 }
 
-/* Blocked frames are noted after they took effect, so the room for the notes is taken before: none is lost for want of memory. */
+/* Blocked frames are noted after they took effect, so the room for the notes is taken before. */
 static gv_status take_all(gv_endpoint *end, const gvp_given *given, size_t count, gv_taken *taken) {
   uint32_t got = GV_TAKEN_NOT_OURS;
   gv_status status = GV_OK;

@@ -50,7 +50,8 @@ static bool note_said(gv_endpoint *end) {
   return true;
 }
 
-/* Takes the room for the notes of so many frames before they take effect, so that none is lost for want of memory. */
+/* Takes the room for the notes of so many frames before they take effect. A note whose mark finds no memory waits there, and is left out
+ * only if its stream's length becomes known before it is marked. */
 static bool expect(gv_endpoint *end, size_t count) {
   return count == 0 || (listens(end) && note_said(end) && has_room(end, &end->said, count));
 }

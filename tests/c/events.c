@@ -262,6 +262,25 @@ static void held_back(void) {
   gv_endpoint_free(end);
 }
 
+/* What counts is the end of the packet that says so: it is told though the limit rises later, or the stream's length becomes known. */
+static void said_before(void) {
+  static const uint8_t ends_0[] = {0x0f, 0x00, 0x44, 0x00, 0x00}; /* stream 0 ends at 1024 */
+  const gv_frame said[2] = {
+    {.size = sizeof said[0], .kind = GV_FRAME_STREAM_DATA_BLOCKED, .stream = 0, .limit = 1024},
+    {.size = sizeof said[0], .kind = GV_FRAME_STREAM_DATA_BLOCKED, .stream = 2, .limit = 1024},
+  };
+  gv_endpoint *end = new_end(GV_ROLE_SERVER);
+  gv_taken taken = GV_TAKEN_NOT_OURS;
+  hears(end, "", "nothing came about");
+  want(gv_take_frames(end, said, 2, &taken), GV_OK, "two streams are held back");
+  want(gv_set_stream_window(end, 2, 2048), GV_OK, "the limit of one rises");
+  want(gv_receive(end, 1, ends_0, sizeof ends_0), GV_OK, "the other one ends");
+  hears(end, "opened 0;opened 2;blocked 0;blocked 2;", "both are told");
+  want(gv_take_frames(end, said, 2, &taken), GV_OK, "the same frames again");
+  hears(end, "", "hold nobody back any more");
+  gv_endpoint_free(end);
+}
+
 /* A payload says that the limit of stream 0 or 2 holds the peer back, and so many allocations are given. */
 static gv_status say(gv_endpoint *end, uint64_t number, int gives) {
   const uint8_t payload[] = {0x15, (uint8_t)(2 * number), 0x44, 0x00};
@@ -340,6 +359,7 @@ int main(void) {
   refused(client, server);
   bounded();
   held_back();
+  said_before();
   payloads_without_memory();
   writes_without_memory();
   gv_endpoint_free(client);

@@ -483,10 +483,10 @@ class Calls:
         for each direction of which open() raised StreamLimitError, each once until that happens again.
 
         The last three kinds come each time that the peer said so of a limit that hadn't risen by the end of the packet, once for all that
-        it said since the last one. They come from take_frame() and take_frames() once this was called. From receive() they come only if
-        report_blocked() chose so, since that reads payloads twice; it turns the other two on as well. Frames that are passed in twice
-        report twice. A stream whose length is known has none, since no limit moves then; one that was stopped does. A greater window helps:
-        set_conn_window(), set_stream_window() or set_grant().
+        it said since the last one, even if the limit rose later. They come from take_frame() and take_frames() once this was called. From
+        receive() they come only if report_blocked() chose so, since that reads payloads twice; it turns the other two on as well. Frames
+        that are passed in twice report twice. A stream has none if its length was known by the end of the packet, since no limit moves
+        then; one that was stopped does. A greater window helps: set_conn_window(), set_stream_window() or set_grant().
 
         The others come at most once for a stream (sections 2 to 4). A closed endpoint reports no EventKind.WRITABLE, no EventKind.AVAILABLE
         and none of the last three kinds, since none could be acted on, and EventKind.READABLE only if reads_when_closed was chosen.
