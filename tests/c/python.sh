@@ -64,12 +64,15 @@ if [ -n "$python" ]; then
   try 'the example of each call in Python, over the later library' calls_in_python "$later/libgotsavena.so.0"
   try 'the files of docs/C.md in Python' files_in_python
   try 'Python without the library' says_no_library
-  if has mypy 'the types of the package for Python'; then try 'the types of the package for Python' typed; fi
+  if [ "$kind" = erased ] && has mypy 'the types of the package for Python'; then try 'the types of the package for Python' typed; fi
   try 'uninstall of the package for Python' make -s -C "$root/c" uninstall-python "PYTHONDIR=$usr/python"
 else
   echo 'skipped: the examples in Python (no python3-cffi)'
 fi
-if [ -n "$builder" ]; then
+# (of one kind, since the package is the same)
+if [ "$kind" != erased ]; then
+  :
+elif [ -n "$builder" ]; then
   try 'the package for Python by pip' by_pip "$builder"
 elif command -v python3 >/dev/null; then
   echo "skipped: the package for Python by pip (no$(wanting /usr/bin/python3))"
