@@ -784,8 +784,9 @@ GV_API gv_status gv_next_event(gv_endpoint *end, gv_event *event);
 
 /** Chooses whether gv_receive() and gv_receive_with_acks() look through each payload for blocked frames of the peer (sections 19.12 to
  * 19.14). Not by default: it costs a second reading of each payload, and a third if there is such a frame. If it is chosen, gv_take_frame()
- * and gv_take_frames() note such frames before an event was asked for, too. Memory for the notes is taken before the payload takes effect:
- * if it is refused, ::GV_NO_MEMORY, nothing changed, and the same payload may come again. */
+ * and gv_take_frames() note such frames before an event was asked for, too. Memory for the notes is taken before the payload takes effect,
+ * 8 bytes for each such frame, and more than 4,096 bytes go back as the call ends. If it is refused, ::GV_NO_MEMORY, nothing changed, and
+ * the same payload may come again. */
 GV_API gv_status gv_report_blocked(gv_endpoint *end, bool is_chosen);
 
 /** @}

@@ -508,7 +508,8 @@ class Calls:
         """Chooses whether receive() and receive_with_acks() look through each payload for blocked frames of the peer (sections 19.12 to
         19.14). Not by default: it costs a second reading of each payload, and a third if there is such a frame. If it is chosen,
         take_frame() and take_frames() note such frames before an event was asked for, too. Memory for the notes is taken before the payload
-        takes effect: if it is refused, NoMemoryError, nothing changed, and the same payload may come again.
+        takes effect, 8 bytes for each such frame, and more than 4,096 bytes go back as the call ends. If it is refused, NoMemoryError,
+        nothing changed, and the same payload may come again.
 
         >>> server.report_blocked(True)
         >>> server.receive(0, Frame(FrameKind.STREAMS_BLOCKED, dir=Dir.UNI, limit=100).put())
