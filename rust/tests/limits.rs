@@ -226,7 +226,7 @@ fn runs(places: impl Iterator<Item = u64>, is_stopped: bool) -> (u64, u64) {
 
 #[test]
 fn gaps_take_memory() {
-    says("none for two runs, else 16 to 33 bytes a run");
+    says("none for two runs of bytes, else 16 to 33 bytes for each run");
     says(
         "every second byte of a window costs up to sixteen times the window in runs, and the buffer beside it",
     );
