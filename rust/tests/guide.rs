@@ -1,12 +1,12 @@
-//! What docs/GUIDE.md says of errors, of a close and of transport parameters.
+//! What docs/GUIDE.md says of errors, of a close and of transport parameters, and docs/EMBEDDING.md of blocked frames.
 
 #[path = "../examples/parameters.rs"]
 mod parameters;
 mod support;
 
 use gotsavena::{
-    Dir, Endpoint, Event, LostFault, MakeFault, OpenFault, ReceiveFault, Received, Role, Settings,
-    StreamId, UseFault,
+    Dir, Endpoint, Event, Frame, LostFault, MakeFault, OpenFault, ReceiveFault, Received, Role,
+    Settings, StreamId, Taken, UseFault,
 };
 use support::two_ends;
 
@@ -105,6 +105,27 @@ fn after_a_close() {
     let len = server.close_payload(&mut payload).expect("it closed");
     let received = client.receive(number, &payload[..len]);
     assert_eq!(received, Ok(Received::PeerClosed(why.code)));
+}
+
+#[test]
+fn blocked_frames_change_nothing_but_what_is_open() {
+    let [_, mut server] = two_ends(Settings::default());
+    let [first, high] = [0, 396].map(|n| StreamId::new(n).expect("below 2^62"));
+    let blocked = |stream| Frame::StreamDataBlocked { stream, limit: 0 };
+    assert_eq!(server.take_frame(&blocked(high)), Ok(Taken::Took));
+    let opened = std::iter::from_fn(|| server.accept()).count();
+    assert_eq!(opened, 100);
+    for frame in [
+        blocked(high),
+        blocked(first),
+        Frame::DataBlocked { limit: 0 },
+        Frame::StreamsBlocked {
+            dir: Dir::Bidi,
+            count: 100,
+        },
+    ] {
+        assert_eq!(server.take_frame(&frame), Ok(Taken::Unchanged));
+    }
 }
 
 #[test]
