@@ -8,6 +8,7 @@ mod counting;
 mod limits;
 #[path = "support/peer.rs"]
 mod peer;
+mod support;
 
 use counting::LIVE;
 use gotsavena::{
@@ -17,6 +18,7 @@ use gotsavena::{
 };
 use limits::{ITSELF, MANY, holds, page, root, says, taken};
 use peer::{Driven, byte, wide_limits};
+use support::Random;
 
 const MIB: u64 = 1 << 20;
 
@@ -384,9 +386,11 @@ fn lost_packets_are_kept() {
     assert!(late >= with && bytes <= 2_700_000, "{bytes}");
 }
 
-/// What `held` may say of the receiving side: four times the credit used beyond what was read, and 4,096 bytes for each half that keeps bytes.
-fn is_within_credit(driven: &Driven, read: u64, halves: u64) {
-    let (held, used) = (receiving(driven), driven.end.spent() - read);
+/// What `held` may say of the receiving side: four times the credit used beyond what was taken, and 4,096 bytes for each half that keeps
+/// bytes.
+fn is_within_credit(driven: &Driven, halves: u64) {
+    let used = driven.end.spent() - driven.end.taken_sum();
+    let held = receiving(driven);
     assert!(
         held <= 4 * used + 4096 * halves,
         "{held} bytes, {used} used, {halves} halves"
@@ -405,12 +409,11 @@ fn receive_buffers_follow_the_credit_that_was_used() {
     // A byte in each page of 2 KiB takes as much as all of it: more than four times the bytes.
     for place in 0..100 {
         apart.take(&[byte(stream, 2048 * place)]);
-        is_within_credit(&apart, 0, 1);
+        is_within_credit(&apart, 1);
     }
     assert_eq!(receiving(&apart), 1 << 18);
     // Streams that were read empty and aren't over.
     let mut empty = Driven::new(Settings::default(), wide_limits());
-    let mut read = 0;
     for index in 0..100 {
         let stream = empty.theirs(Dir::Uni, index);
         empty.take(&[Frame::Stream {
@@ -419,16 +422,48 @@ fn receive_buffers_follow_the_credit_that_was_used() {
             fin: false,
             bytes: &[7; 1000],
         }]);
-        is_within_credit(&empty, read, index + 1);
+        is_within_credit(&empty, index + 1);
         let bytes = empty.end.read(stream, &mut [0; 1000]);
         assert_eq!(bytes, Ok(Read::Bytes(1000)));
-        read += 1000;
-        is_within_credit(&empty, read, index + 1);
+        is_within_credit(&empty, index + 1);
     }
     says(
         "A receive buffer of at most 4,096 bytes also stays if the last byte was read, but never the end",
     );
     assert_eq!((empty.end.stored(), receiving(&empty)), (0, 102_400));
+}
+
+#[test]
+fn receive_buffers_of_any_frames_stay_within_it() {
+    const STREAMS: u64 = 8;
+    let bytes = [7; 4000];
+    for seed in 0..20 {
+        let mut random = Random::new(seed);
+        let mut driven = Driven::new(Settings::default(), wide_limits());
+        driven.open(Dir::Uni, STREAMS - 1);
+        let room = |end: &Endpoint| MIB - (end.spent() - end.taken_sum());
+        for _ in 0..1000 {
+            let stream = driven.theirs(Dir::Uni, random.below(STREAMS));
+            if random.chance(30) {
+                let most = random.below(3000) as usize;
+                let read = driven.end.read(stream, &mut vec![0; most]);
+                assert!(matches!(read, Ok(Read::Bytes(_) | Read::Wait)));
+            } else if room(&driven.end) > 40_000 {
+                let from = driven.end.taken(stream).expect("it is open");
+                let reach = if random.chance(50) { 3000 } else { 30_000 };
+                let offset = from + random.below(reach);
+                let len = 1 + random.below(4000) as usize;
+                driven.take(&[Frame::Stream {
+                    stream,
+                    offset,
+                    fin: false,
+                    bytes: &bytes[..len],
+                }]);
+            }
+            driven.send();
+            is_within_credit(&driven, STREAMS);
+        }
+    }
 }
 
 #[test]
@@ -461,14 +496,17 @@ fn a_receive_buffer_grows_and_goes() {
             fin: false,
             bytes: &bytes,
         }]);
-        assert!(receiving(&driven) <= (2 * len as u64).max(4096), "{len}");
+        let held = receiving(&driven);
+        assert!(held <= (2 * len as u64).max(4096), "{len}");
         assert_eq!(
             driven.end.read(stream, &mut vec![0; len]),
             Ok(Read::Bytes(len))
         );
         read += len as u64;
-        assert!(receiving(&driven) <= 4096);
+        let goes = held > 4096;
+        assert_eq!(receiving(&driven), if goes { 0 } else { held });
         driven.take(&[byte(stream, read)]);
+        assert_eq!(receiving(&driven), if goes { 4096 } else { held });
         assert_eq!(driven.end.read(stream, &mut [0]), Ok(Read::Bytes(1)));
         read += 1;
         assert!(receiving(&driven) <= 4096);
@@ -491,7 +529,7 @@ fn a_byte_in_each_page_takes_a_window() {
         driven
     });
     assert!(bytes <= 34_400_000, "{bytes}");
-    is_within_credit(&driven, 0, 1);
+    is_within_credit(&driven, 1);
 }
 
 /// What other suites hold.
