@@ -55,7 +55,7 @@ compile events "$tests/events.c"
 compile written "$tests/written.c"
 compile lent "$tests/lent.c"
 compile play "$tests/play.c"
-compile payloads "$root/c/fuzz/payloads.c"
+compile replay "$root"/c/fuzz/*.c
 compile refused "$tests/refused.c"
 compile allocators "$tests/allocators.c" -pthread -Wl,--wrap=malloc -Wl,--wrap=realloc
 compile lengths "$tests/lengths.c" -Wl,--wrap=malloc -Wl,--wrap=calloc -Wl,--wrap=realloc
@@ -68,7 +68,15 @@ if "$root/c/has-cargo" >/dev/null 2>&1; then
 else
   echo 'skipped: the defaults of the Rust crate (no cargo)'
 fi
-try 'payloads' timeout 300 "$room/payloads" "$root/c/fuzz/inputs.txt"
+# The kept inputs of the fuzzer: the Rust crate gives the same answers.
+plays_inputs() { timeout 300 "$room/replay" "$root/c/fuzz/inputs.txt" >"$room/replayed"; }
+try 'the inputs of c/fuzz' plays_inputs
+if "$root/c/has-cargo" >/dev/null 2>&1; then
+  answers_as_rust() { cargo run -q --offline --manifest-path "$root/rust/Cargo.toml" -p gotsavena-fuzz -- "$root/c/fuzz/inputs.txt" | cmp - "$room/replayed"; }
+  try 'the answers to them are those of the Rust crate' answers_as_rust
+else
+  echo 'skipped: the answers of the Rust crate (no cargo)'
+fi
 
 # Over the libraries as they are: the archive, and the shared one.
 plain() {
