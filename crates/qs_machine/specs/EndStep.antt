@@ -5,6 +5,7 @@ use Rattle.std.specs.Prelude.{◌≡◌, ℕ, List, Option, Result}
 use Rattle.qs_wire.specs.Layout.{FrameValue}
 use Rattle.qs_wire.specs.declared.stream_id.Dir.{Dir}
 use Rattle.qs_recv.specs.declared.half.Read.{Read}
+use Rattle.qs_recv.specs.declared.half.Peek.{Peek as Peeked}
 use Rattle.qs_calls.specs.declared.closing.Closing.{Closing}
 use Rattle.qs_calls.specs.declared.closing.Received.{Received}
 use Rattle.qs_calls.specs.declared.closing.NotedClose.{NotedClose}
@@ -27,6 +28,7 @@ use Rattle.qs_calls.specs.declared.uses.UseFault.{UseFault}
 use Rattle.qs_machine.specs.Ends.{End}
 use Rattle.qs_machine.specs.Credit.{spent, all_stored, granted_streams}
 use Rattle.qs_machine.specs.Owner.{OpenStep, AcceptStep, AcceptOfStep, WriteStep, FinishStep, ResetStep, StopStep, StopAndDiscardStep, ReadStep, TakesBytes}
+use Rattle.qs_machine.specs.Asking.{IsPeeked}
 use Rattle.qs_machine.specs.Receiving.{ReceiveStep, noted_closed}
 use Rattle.qs_machine.specs.Making.{MakeStep, ClaimStep, LoseStep, ClosePayload, MakeAckStep}
 use Rattle.qs_machine.specs.Filling.{FillStep}
@@ -47,6 +49,7 @@ pub data Call : Type 0 where
   StopAndDiscard : (stream code : ℕ) → Call
   ReadUpTo : (stream size : ℕ) → Call
   Consume : (stream most : ℕ) → Call
+  Peek : (stream : ℕ) → Call
   Receive : (number : ℕ) (payload : List ℕ) → Call
   TakeFrame : (frame : FrameValue) → Call
   TakeFrames : (frames : List FrameValue) → Call
@@ -79,6 +82,7 @@ Answer (Stop n code) = Result (Unit {0}) UseFault
 Answer (StopAndDiscard n code) = Result (Unit {0}) UseFault
 Answer (ReadUpTo n size) = Result Read UseFault × List ℕ
 Answer (Consume n most) = Result Consumed UseFault × List ℕ
+Answer (Peek n) = Result Peeked UseFault
 Answer (Receive k payload) = Result Received Closing
 Answer (TakeFrame f) = Result Taken TakeFault
 Answer (TakeFrames fs) = Result Taken TakeFault
@@ -111,6 +115,7 @@ EndStep old (Stop n code) answer new = StopStep old n code answer new
 EndStep old (StopAndDiscard n code) answer new = StopAndDiscardStep old n code answer new
 EndStep old (ReadUpTo n size) answer new = ReadStep old n size answer.0 answer.1 new
 EndStep old (Consume n most) answer new = TakesBytes old n most answer.0 answer.1 new
+EndStep old (Peek n) answer new = IsPeeked old n answer × (new ≡ old)
 EndStep old (Receive k payload) answer new = ReceiveStep old k payload answer new
 EndStep old (TakeFrame f) answer new = TakeFrameStep old f answer new
 EndStep old (TakeFrames fs) answer new = TakeFramesStep old fs answer new

@@ -7,7 +7,7 @@ use Rattle.qs_calls.specs.declared.event.Side.{Side}
 use Rattle.qs_calls.specs.declared.event.Side.TheVariants.{A, B}
 use Rattle.qs_machine.specs.Asking.{IsNextOutstanding}
 use Rattle.qs_machine.specs.Due.{Sendable}
-use Rattle.qs_machine.specs.EndStep.{Call, Answer, ReadUpTo, Consume, Receive, Lose}
+use Rattle.qs_machine.specs.EndStep.{Call, Answer, ReadUpTo, Consume, Peek, Receive, Lose}
 use Rattle.qs_machine.specs.News.{IsLeast, IsReadable}
 use Rattle.qs_runs.specs.Logs.{Happening, other}
 use Rattle.qs_runs.specs.Worlds.{end_of, WorldStep}
@@ -40,10 +40,11 @@ Sends s (suc n) old new = (mid : Moment) × Passes s old mid × Sends s n mid ne
 abbrev pub Turn : Side → Moment → Moment → Type 0
 Turn s old new = (mid : Moment) × ((n : ℕ) × Loses s n old mid) × ((n : ℕ) × Sends s n mid new)
 
--- a read, into a slice or without a copy (RFC 9000, section 2.2)
+-- a read, into a slice or without a copy, and a look (RFC 9000, section 2.2)
 abbrev pub IsRead : Call → Type 0
 IsRead (ReadUpTo n size) = ⊤
 IsRead (Consume n most) = ⊤
+IsRead (Peek n) = ⊤
 IsRead call = ⊥
 
 -- A round: A's turn and B's turn, and then both read, until at some moment each reader has nothing more to read.

@@ -1,4 +1,4 @@
--- Of public contracts.
+-- Trusted.
 -- What a look at a lane tells, by which nothing is read (RFC 9000, section 2.2).
 use Rattle.std.specs.Prelude.{◌≡◌, ℕ, ◌+◌, ◌<◌, false, List, ◌++◌, length}
 use Rattle.std.specs.FinSet as set

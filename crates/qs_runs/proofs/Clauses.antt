@@ -24,7 +24,7 @@ use Rattle.qs_machine.proofs.Plains.{close_comes}
 use Rattle.qs_machine.proofs.Pieces.{All_at}
 use Rattle.qs_runs.specs.Logs.{Happening, History, other, processed, written}
 use Rattle.qs_runs.specs.Worlds.{World, end_of, May, WorldStep}
-use Rattle.qs_runs.specs.Agree.{Agree, PrefixAgrees, WholeAgrees, FinalSizesAgree, CreditAgrees, StaysOpen, StepAgrees, EveryRunAgrees, IsOld, handed_in}
+use Rattle.qs_runs.specs.Agree.{Agree, PrefixAgrees, ShownAgrees, WholeAgrees, FinalSizesAgree, CreditAgrees, StaysOpen, StepAgrees, IsOld, handed_in}
 use Rattle.qs_runs.specs.Invariant.{WorldOk, SendSlot, RecvSlot, FrameTaken, EndOk}
 use Rattle.qs_runs.specs.Pasts.{past, Holds, Tells, IsNamed}
 use Rattle.qs_runs.specs.Clauses.{Carries, HasArrived, sending, receiving, PiecesAreWritten, ReceivedIsBelowSent, StoredIsWritten, ReadIsWritten, ArrivedWasTaken, ArrivedResetWasTaken, AckedHasArrived, FinalSizeIsDeclared, ResetCodeIsTheSenders, SentIsWithinKnown, KnownIsWithinGranted, IsOpen, IsOpenAtInitiator, known_for, OpenedIsBelowKnown}
@@ -33,7 +33,7 @@ use Rattle.qs_runs.proofs.Unharmed.{spent_le, Facing, lane_limit, own_sends, fin
 use Rattle.qs_runs.proofs.Agreement.{prefix_agrees, whole_agrees, received_agrees, size_agrees, reset_agrees, byte_written, gave_written, end_written, written_count}
 use Rattle.qs_runs.proofs.Receives.{Hands, settle_spends, repeats, spends_nothing, frames_spend, none_spent}
 use Rattle.qs_runs.proofs.Histories.{theirs_mine, payload_seen, confirmed_taken, frames_told, payload_come}
-use Rattle.qs_runs.proofs.Runs.{ends_face, run_keeps, opposite, step_keeps}
+use Rattle.qs_runs.proofs.Runs.{ends_face, opposite, step_keeps}
 
 -- What agrees in a world that meets the invariant, and at each step from it.
 
@@ -89,8 +89,8 @@ module _ (a b : Settings) (h : History) (w : World) (ok : WorldOk a b h w) where
   pub stays_open : (s : Side) → StaysOpen h w s
   stays_open s = ok.unclosed s
 
-  pub agrees : Agree h w
-  agrees = record { prefix = prefix; credit = credit; whole = whole; final_sizes = final_sizes; stays_open = stays_open }
+  pub agrees : ((s : Side) (n : ℕ) → ShownAgrees h s n) → Agree h w
+  agrees shown = record { prefix = prefix; shown = shown; credit = credit; whole = whole; final_sizes = final_sizes; stays_open = stays_open }
 
   -- One call of a side
 
@@ -129,11 +129,6 @@ module _ (a b : Settings) (h : History) (w : World) (ok : WorldOk a b h w) where
 
   pub step_agrees : (x : Happening) (new : World) → WorldStep h w x new → StepAgrees h w x new
   step_agrees x new step = record { again = again x.end (end_of new x.end) x.call x.answer step.step; old_news = old_news x.end (end_of new x.end) x.call x.answer step.may step.step }
-
-pub every_run_agrees : EveryRunAgrees
-every_run_agrees a b h w run =
-    let ok : WorldOk a b h w = run_keeps a b h w run in
-    (agrees a b h w ok, λ x new s. step_agrees a b h w ok x new s)
 
 -- Each clause follows from the invariant of the two ends.
 

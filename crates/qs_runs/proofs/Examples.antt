@@ -5,10 +5,12 @@ use Rattle.std.proofs.Common.{ℕ, List, Ok, refl, sym, subst}
 use Rattle.std.proofs.lemmas.Bool.{false≢true}
 use Rattle.qs_wire.specs.Layout.{ping}
 use Rattle.qs_calls.specs.declared.token.Taken.TheVariants.{NotOurs}
+use Rattle.qs_recv.specs.declared.half.Peek.{Peek as Peeked}
+use Rattle.qs_recv.specs.declared.half.Peek.TheVariants as kinds
 use Rattle.qs_machine.specs.Alone.{TakeBy}
 use Rattle.qs_runs.specs.Logs.{effects}
 use Rattle.qs_runs.specs.Worlds.{end_of}
-use Rattle.qs_runs.specs.Examples.{StoryIsRead, BytesAreRead, EndsAreTold, BreaksAreTold, PacketsAreRead, TokensAreRead, PingComesAlone, Examples}
+use Rattle.qs_runs.specs.Examples.{StoryIsRead, BytesAreRead, LooksAreShown, EndsAreTold, BreaksAreTold, PacketsAreRead, TokensAreRead, PingComesAlone, Examples}
 
 story : (text : List ℕ) → StoryIsRead text
 unfolding effects
@@ -33,6 +35,11 @@ story text =
 bytes : BytesAreRead
 unfolding effects
 bytes = grind (arith, nat_tests)
+
+looks : (peek : Peeked) → LooksAreShown peek
+unfolding effects
+looks (kinds.Bytes front back) = record { not_on_another = refl; not_there = refl; less_read = refl; nothing = refl; not_read = refl; not_told = refl; refused = refl }
+looks _ = record { not_on_another = refl; not_there = refl; less_read = refl; nothing = refl; not_read = refl; not_told = refl; refused = refl }
 
 ends : EndsAreTold
 unfolding effects
@@ -74,4 +81,4 @@ ping_alone a b h w s run open_end = (
 )
 
 pub examples_hold : Examples
-examples_hold = record { story = story; bytes = bytes; ends = ends; breaks = breaks; packets = packets; tokens = tokens; ping_alone = ping_alone }
+examples_hold = record { story = story; bytes = bytes; looks = looks; ends = ends; breaks = breaks; packets = packets; tokens = tokens; ping_alone = ping_alone }

@@ -1,5 +1,5 @@
 -- Each clause of what agrees excludes something; and what the premises of a run leave out, and what they let in.
-use Rattle.std.proofs.Common.{◌≡◌, ℕ, ◌+◌, ◌≤◌, List, [], ◌∷◌, ◌++◌, ◌⊎◌, inl, inr, length, Bool, true, false, cond, ◌&&◌, ◌==◌, Some, Ok, Err, refl, sym, ap, ◌∙◌, arith, subst}
+use Rattle.std.proofs.Common.{◌≡◌, ℕ, ◌+◌, ◌≤◌, List, [], ◌∷◌, ◌++◌, ◌⊎◌, inl, inr, length, take, slice_get, Bool, true, false, cond, ◌&&◌, ◌==◌, Some, Ok, Err, refl, sym, ap, ◌∙◌, arith, subst}
 use Rattle.std.specs.FinSet as set
 use Rattle.std.specs.List.{AllByRecursion}
 use Rattle.std.proofs.lemmas.Option.{same_Some, none-some}
@@ -12,6 +12,8 @@ use Rattle.qs_wire.specs.Varint.{varint_at, short_len}
 use Rattle.qs_wire.specs.Reading.{reading_from, frames_at, frame_at, number_of_type_at, body_at, number_at, counted_at, plain_at}
 use Rattle.qs_wire.specs.declared.stream_id.Dir.TheVariants.{Bidi}
 use Rattle.qs_recv.specs.Lane.{RecvLane}
+use Rattle.qs_recv.specs.declared.half.Peek.{Peek}
+use Rattle.qs_recv.specs.declared.half.Peek.TheVariants as kinds
 use Rattle.qs_send.specs.Lane.{SendLane, state, unacked_from, declared_size}
 use Rattle.qs_send.specs.Records.{Among}
 use Rattle.qs_send.specs.declared.parts.Reset.{Reset}
@@ -27,17 +29,52 @@ use Rattle.qs_machine.specs.Ends.{End}
 use Rattle.qs_machine.specs.Credit.{spent}
 use Rattle.qs_machine.specs.Seen.{Seen, Control, Close, Plain}
 use Rattle.qs_machine.specs.Plains.{frames_in, but_plain}
-use Rattle.qs_machine.specs.SmallEnds.{server_with, sent, fresh, all_came}
+use Rattle.qs_machine.specs.SmallEnds.{server_with, abc, sent, fresh, all_came}
 use Rattle.qs_machine.specs.EndStep.{Receive, TakeFrames}
-use Rattle.qs_runs.specs.Logs.{History, other, effects, payload, taken, was_noted_closed, must_land, HasMade, HasLanded}
+use Rattle.qs_runs.specs.Logs.{History, other, effects, written, read, shown, payload, taken, was_noted_closed, must_land, HasMade, HasLanded}
 use Rattle.qs_runs.specs.Worlds.{World, IsPayload, May}
-use Rattle.qs_runs.specs.Agree.{IsOld}
-use Rattle.qs_runs.specs.Exclusions.{ReadIsNoPrefix, WholeIsMissing, SizesDiffer, WorldsDiffer, NewsIsNotOld, StepsSpend, two_frames, sent_two, took, came_as, PayloadsThatCome, closing, ClosesThatCome, FramesThatCome, TokensThatAreAcked, OtherSteps, blocked, BlockedFramesLand, OtherBytesCome, LimitsAreAbove, NoneBegin, Exclusions, acknowledged, first_of_three}
+use Rattle.qs_runs.specs.Agree.{IsPrefixOf, ShownAgrees, IsOld}
+use Rattle.qs_runs.specs.Examples.{wrote, got, looked}
+use Rattle.qs_runs.specs.Exclusions.{ReadIsNoPrefix, LooksAreOther, WholeIsMissing, SizesDiffer, WorldsDiffer, NewsIsNotOld, StepsSpend, two_frames, sent_two, took, came_as, PayloadsThatCome, closing, ClosesThatCome, FramesThatCome, TokensThatAreAcked, OtherSteps, blocked, BlockedFramesLand, OtherBytesCome, LimitsAreAbove, NoneBegin, Exclusions, acknowledged, first_of_three}
 use Rattle.qs_runs.proofs.Wire.{ping_seen}
 
 prefix : ReadIsNoPrefix (97 ∷ 120 ∷ [])
 unfolding effects
 prefix = grind (arith, nat_tests)
+
+-- Bytes that a look shows, whatever happened before it
+module _ (peek : Peek) (bs : List ℕ) (is : shown B 0 (looked B peek ∷ []) ≡ bs) where
+  shows : (h : History) → shown B 0 (looked B peek ∷ h) ≡ bs
+  shows h = go peek is
+    where
+      go : (x : Peek) → shown B 0 (looked B x ∷ []) ≡ bs → shown B 0 (looked B x ∷ h) ≡ bs
+      go (kinds.Bytes front back) e = e
+      go kinds.End e = e
+      go (kinds.Reset code) e = e
+      go kinds.Wait e = e
+
+  follows : (h : History) → ShownAgrees (looked B peek ∷ h) A 0 → IsPrefixOf (read B 0 (looked B peek ∷ h) ++ bs) (written A 0 (looked B peek ∷ h))
+  follows h agrees = subst (λ xs. IsPrefixOf (read B 0 (looked B peek ∷ h) ++ xs) (written A 0 (looked B peek ∷ h))) (shows h) agrees.follows
+
+looks : (peek : Peek) → LooksAreOther (97 ∷ 120 ∷ []) peek
+unfolding effects
+looks peek =
+    record {
+      other_byte = λ is agrees. (
+          let (rest, e) = follows peek _ is (wrote A abc 3 ∷ []) agrees in
+          let same : 120 ≡ 98 = same_Some 120 98 (ap (λ xs. slice_get xs 1) e) in omega (arith, same)
+          );
+      more = λ is agrees. (let (rest, e) = follows peek _ is (wrote A abc 2 ∷ []) agrees in none-some 99 (sym (ap (λ xs. slice_get xs 2) e)));
+      again = λ is agrees. (let (rest, e) = follows peek _ is (got B abc ∷ wrote A abc 3 ∷ []) agrees in none-some 97 (sym (ap (λ xs. slice_get xs 3) e)));
+      taken = λ is agrees. other_taken (shown B 0 (looked B peek ∷ [])) is agrees;
+      read = λ is agrees. other_taken (shown B 0 (looked B peek ∷ [])) is agrees;
+      read_before = refl;
+    }
+  where
+    other_taken : (bs : List ℕ) → bs ≡ abc → take 2 bs ≡ take (length bs) (97 ∷ 120 ∷ []) → ⊥
+    other_taken bs is same =
+        let e : take 2 abc ≡ take 3 (97 ∷ 120 ∷ []) = subst (λ xs. take 2 xs ≡ take (length xs) (97 ∷ 120 ∷ [])) is same in
+        let one : 98 ≡ 120 = same_Some 98 120 (ap (λ xs. slice_get xs 1) e) in omega (arith, one)
 
 -- all was acknowledged
 all_acked : unacked_from acknowledged ≡ 3
@@ -297,4 +334,4 @@ begins = grind (arith, nat_tests)
 
 pub exclusions_hold : Exclusions
 exclusions_hold =
-    record { prefix = prefix; whole = whole; final_sizes = final_sizes; worlds = worlds; news = news; spent = spends; payloads = payloads; closes = closes; frames = alone; tokens = tokens; blocked = blocked_land; others = others; bytes = bytes_come; limits = limits; begins = begins }
+    record { prefix = prefix; looks = looks; whole = whole; final_sizes = final_sizes; worlds = worlds; news = news; spent = spends; payloads = payloads; closes = closes; frames = alone; tokens = tokens; blocked = blocked_land; others = others; bytes = bytes_come; limits = limits; begins = begins }

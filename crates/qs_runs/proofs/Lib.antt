@@ -20,6 +20,7 @@ pub mod Facing
 pub mod Histories
 pub mod Packing
 pub mod Runs
+pub mod Shown
 pub mod Claims
 pub mod Lasting
 pub mod Stays

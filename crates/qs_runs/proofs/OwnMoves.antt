@@ -44,7 +44,7 @@ use Rattle.qs_calls.specs.declared.closing.Closed.{Closed as ClosedEnd}
 use Rattle.qs_calls.specs.declared.closing.NotedClose.{NotedClose}
 use Rattle.qs_machine.specs.Receiving.{noted_by}
 use Rattle.qs_machine.specs.Laws.{StaysOnceClosed}
-use Rattle.qs_machine.specs.EndStep.{Call, Answer, EndStep, Open, Accept, AcceptOf, Write, Finish, Reset, Stop, StopAndDiscard, ReadUpTo, Consume, Receive, TakeFrame, TakeFrames, TokenAcked, TokenLost, Make, MakeAck, FillIn, Lose, Claim, RaiseLimits, Set, NoteClosed, ClosingPayload, Stored, Granted, Spent, GrantedStreams, Report}
+use Rattle.qs_machine.specs.EndStep.{Call, Answer, EndStep, Open, Accept, AcceptOf, Write, Finish, Reset, Stop, StopAndDiscard, ReadUpTo, Consume, Peek, Receive, TakeFrame, TakeFrames, TokenAcked, TokenLost, Make, MakeAck, FillIn, Lose, Claim, RaiseLimits, Set, NoteClosed, ClosingPayload, Stored, Granted, Spent, GrantedStreams, Report}
 use Rattle.qs_runs.specs.Logs.{Stopped, Ended, Sent, if_ok, read_effects, effects_of}
 use Rattle.qs_runs.proofs.Past.{with_effect, with_effects, effects_joined}
 use Rattle.qs_machine.specs.Owner.{AreTaken, TakesBytes}
@@ -515,6 +515,7 @@ own_moves p e new (Stop n code) answer deaf quiet ok step = stop_moves p e new o
 own_moves p e new (StopAndDiscard n code) answer deaf quiet ok step = forget_moves p e new ok n code answer step
 own_moves p e new (ReadUpTo n size) answer deaf quiet ok step = read_moves p e new ok n size answer step
 own_moves p e new (Consume n most) answer deaf quiet ok step = consume_moves p e new ok n most answer.1 answer.0 step
+own_moves p e new (Peek n) answer deaf quiet ok step = ended_by p e new step.1 ok
 own_moves p e new (Receive k bytes) answer deaf quiet ok step = absurd (deaf tt)
 own_moves p e new (TakeFrame f) answer deaf quiet ok step = absurd (deaf tt)
 own_moves p e new (TakeFrames fs) answer deaf quiet ok step = absurd (deaf tt)

@@ -1,6 +1,6 @@
 -- Trusted.
 -- What two ends agree on, whatever happens to them and to their packets.
-use Rattle.std.specs.Prelude.{◌≡◌, ◌≢◌, ℕ, ◌+◌, ◌<◌, ◌≤◌, true, false, List, [], ◌∷◌, ◌++◌, length, ◌⊎◌, None, Some, ⊤}
+use Rattle.std.specs.Prelude.{◌≡◌, ◌≢◌, ℕ, ◌+◌, ◌<◌, ◌≤◌, true, false, List, [], ◌∷◌, ◌++◌, length, take, flat_map, ◌⊎◌, None, Some, ⊤}
 use Rattle.std.specs.List.{AllByRecursion}
 use Rattle.std.specs.FinSet as set
 use Rattle.qs_recv.specs.Lane.{RecvLane}
@@ -15,7 +15,7 @@ use Rattle.qs_machine.specs.Credit.{spent, all_sent}
 use Rattle.qs_machine.specs.Seen.{Seen, Stream, Control, seen, seen_all}
 use Rattle.qs_machine.specs.Plains.{frames_in}
 use Rattle.qs_machine.specs.EndStep.{Call, Receive, TakeFrame, TakeFrames}
-use Rattle.qs_runs.specs.Logs.{Happening, History, other, written, read, read_whole, processed, was_noted_closed}
+use Rattle.qs_runs.specs.Logs.{Happening, History, other, effects_of, gave_in, written, read, shown, read_whole, processed, was_noted_closed}
 use Rattle.qs_runs.specs.Worlds.{World, end_of, WorldStep, Run}
 
 -- xs is how ys begins (RFC 9000, section 2.2)
@@ -27,6 +27,18 @@ IsPrefixOf {X} xs ys = (rest : List X) × (xs ++ rest ≡ ys)
 pub record PrefixAgrees (h : History) (s : Side) (n : ℕ) : Type 0 where
   pub prefix : IsPrefixOf (read (other s) n h) (written s n h)
   pub ended : read_whole (other s) n h ≡ true → read (other s) n h ≡ written s n h
+
+-- what was taken last of a stream is what was shown of it before, as far as both go (RFC 9000, section 2.2)
+abbrev pub IsTakenAsShown : ℕ → History → Type 0
+IsTakenAsShown n [] = ⊤
+IsTakenAsShown n (x ∷ h) =
+    let given = flat_map (gave_in n) (effects_of x.call x.answer) in
+    take (length given) (shown x.end n h) ≡ take (length (shown x.end n h)) given
+
+-- What is shown follows, in what was written, what was read; and so is what is taken then (RFC 9000, section 2.2).
+pub record ShownAgrees (h : History) (s : Side) (n : ℕ) : Type 0 where
+  pub follows : IsPrefixOf (read (other s) n h ++ shown (other s) n h) (written s n h)
+  pub taken : IsTakenAsShown n h
 
 -- what counts as received at the sender was received in whole (RFC 9000, section 3.1)
 abbrev pub WholeAgrees : History → World → Side → ℕ → Type 0
@@ -53,6 +65,7 @@ StaysOpen h w s = was_noted_closed s h ≡ false → ((end_of w s).closed ≡ No
 -- what agrees in a world with this history (RFC 9000, sections 2.2, 3, 4 and 10.2)
 pub record Agree (h : History) (w : World) : Type 0 where
   pub prefix : (s : Side) (n : ℕ) → PrefixAgrees h s n
+  pub shown : (s : Side) (n : ℕ) → ShownAgrees h s n
   pub credit : (s : Side) → CreditAgrees w s
   pub whole : (s : Side) (n : ℕ) → WholeAgrees h w s n
   pub final_sizes : (s : Side) (n : ℕ) → FinalSizesAgree w s n

@@ -1,9 +1,11 @@
 -- Of laws.
 -- What is read off small histories.
-use Rattle.std.specs.Prelude.{◌≡◌, ℕ, Bool, true, false, List, [], ◌∷◌, Option, None, Some, Ok, Err}
+use Rattle.std.specs.Prelude.{◌≡◌, ℕ, Bool, true, false, drop, List, [], ◌∷◌, Option, None, Some, Ok, Err}
 use Rattle.qs_wire.specs.Layout.{ping, max_data}
 use Rattle.qs_wire.specs.declared.stream_id.Dir.{Dir}
 use Rattle.qs_recv.specs.declared.half.Read.TheVariants.{Bytes, End}
+use Rattle.qs_recv.specs.declared.half.Peek.{Peek as Peeked}
+use Rattle.qs_recv.specs.declared.half.Peek.TheVariants as looks
 use Rattle.qs_send.specs.declared.piece.Item.TheVariants.{MaxData}
 use Rattle.qs_calls.specs.declared.settings.PeerLimits.{PeerLimits}
 use Rattle.qs_calls.specs.declared.closing.Received.{Received}
@@ -22,10 +24,10 @@ use Rattle.qs_calls.specs.declared.event.Side.TheVariants.{A, B}
 use Rattle.qs_machine.specs.SmallEnds.{abc}
 use Rattle.qs_machine.specs.Seen.{Control, Plain}
 use Rattle.qs_machine.specs.Setting.{Setting}
-use Rattle.qs_machine.specs.EndStep.{Call, Answer, AcceptOf, Write, Reset, Stop, StopAndDiscard, ReadUpTo, Consume, Receive, TakeFrame, TakeFrames, TokenAcked, TokenLost, Make, MakeAck, FillIn, Claim, RaiseLimits, Set, NoteClosed}
+use Rattle.qs_machine.specs.EndStep.{Call, Answer, AcceptOf, Write, Reset, Stop, StopAndDiscard, ReadUpTo, Consume, Peek, Receive, TakeFrame, TakeFrames, TokenAcked, TokenLost, Make, MakeAck, FillIn, Claim, RaiseLimits, Set, NoteClosed}
 use Rattle.qs_calls.specs.declared.settings.Settings.{Settings}
 use Rattle.qs_runs.specs.Worlds.{World, end_of, Run}
-use Rattle.qs_runs.specs.Logs.{Happening, History, written, read, read_whole, stopped, broken_off, made, payload, processed, taken, was_acked, was_noted_closed}
+use Rattle.qs_runs.specs.Logs.{Happening, History, written, read, shown, read_whole, stopped, broken_off, made, payload, processed, taken, was_acked, was_noted_closed}
 
 -- a call of an end, with its answer
 abbrev pub at : Side → (call : Call) → Answer call → Happening
@@ -38,6 +40,10 @@ wrote side bytes count = at side (Write 0 bytes) (Ok count)
 -- `read` on stream 0 gave these bytes
 abbrev pub got : Side → List ℕ → Happening
 got side bytes = at side (ReadUpTo 0 10) (Ok (Bytes 3), bytes)
+
+-- `peek` showed so of stream 0
+abbrev pub looked : Side → Peeked → Happening
+looked side peek = at side (Peek 0) (Ok peek)
 
 -- or told the end
 abbrev pub told_end : Side → Happening
@@ -101,6 +107,21 @@ pub record BytesAreRead : Type 0 where
   pub not_there : read A 0 (took_out B abc true ∷ []) ≡ []
   -- none of a call that was refused
   pub refused : read B 0 (at B (Consume 0 10) (Err NoSuchStream, abc) ∷ []) ≡ []
+
+-- What is shown
+pub record LooksAreShown (peek : Peeked) : Type 0 where
+  -- of that stream and at that end alone
+  pub not_on_another : shown B 4 (looked B peek ∷ []) ≡ []
+  pub not_there : shown A 0 (looked B peek ∷ []) ≡ []
+  -- what is read isn't shown any more
+  pub less_read : shown B 0 (got B abc ∷ looked B peek ∷ []) ≡ drop 3 (shown B 0 (looked B peek ∷ []))
+  -- nor is what a look before showed, where it shows no bytes
+  pub nothing : shown B 0 (looked B looks.Wait ∷ looked B peek ∷ []) ≡ []
+  -- a look reads nothing, and tells no end
+  pub not_read : read B 0 (looked B peek ∷ []) ≡ []
+  pub not_told : read_whole B 0 (looked B looks.End ∷ []) ≡ false
+  -- and shows none where it was refused
+  pub refused : shown B 0 (at B (Peek 0) (Err NoSuchStream) ∷ []) ≡ []
 
 -- Who was told the end
 pub record EndsAreTold : Type 0 where
@@ -201,6 +222,7 @@ PingComesAlone = (a b : Settings) (h : History) (w : World) (s : Side) → Run a
 pub record Examples : Type 0 where
   pub story : (text : List ℕ) → StoryIsRead text
   pub bytes : BytesAreRead
+  pub looks : (peek : Peeked) → LooksAreShown peek
   pub ends : EndsAreTold
   pub breaks : BreaksAreTold
   pub packets : (text : List ℕ) → PacketsAreRead text

@@ -7,6 +7,7 @@ use Rattle.qs_wire.specs.Layout.{FrameValue, ping, ack, crypto, max_data, stream
 use Rattle.qs_wire.specs.Reading.{reading_of}
 use Rattle.qs_wire.specs.declared.fault.WireFault.{WireFault}
 use Rattle.qs_recv.specs.Lane.{RecvLane}
+use Rattle.qs_recv.specs.declared.half.Peek.{Peek}
 use Rattle.qs_send.specs.Lane.{SendLane}
 use Rattle.qs_send.specs.declared.piece.Item.TheVariants.{MaxData, ResetStream}
 use Rattle.qs_calls.specs.Settings.{limits_of}
@@ -24,10 +25,10 @@ use Rattle.qs_machine.specs.Plains.{DifferInPlain, frames_in}
 use Rattle.qs_machine.specs.Examples.{standard, server, client_of}
 use Rattle.qs_machine.specs.SmallEnds.{client_with, server_with, abc, wrote as wrote_half, sent, fresh, all_came}
 use Rattle.qs_machine.specs.EndStep.{Call, Answer, Accept, Receive, TakeFrame, TakeFrames, TokenAcked, Make, Claim, RaiseLimits, NoteClosed}
-use Rattle.qs_runs.specs.Logs.{Happening, History, was_noted_closed, HasLanded, ping_text}
+use Rattle.qs_runs.specs.Logs.{Happening, History, shown, was_noted_closed, HasLanded, ping_text}
 use Rattle.qs_runs.specs.Worlds.{World, WorldStep, May, AreGranted, Begins}
-use Rattle.qs_runs.specs.Agree.{PrefixAgrees, WholeAgrees, FinalSizesAgree, Agree, IsOld, StepAgrees}
-use Rattle.qs_runs.specs.Examples.{at, wrote, got, told_end, took_out, story, packet, came, token}
+use Rattle.qs_runs.specs.Agree.{PrefixAgrees, IsTakenAsShown, ShownAgrees, WholeAgrees, FinalSizesAgree, Agree, IsOld, StepAgrees}
+use Rattle.qs_runs.specs.Examples.{at, wrote, got, looked, told_end, took_out, story, packet, came, token}
 
 -- It doesn't agree (section 2.2) that what was read
 pub record ReadIsNoPrefix (other : List ℕ) : Type 0 where
@@ -41,6 +42,20 @@ pub record ReadIsNoPrefix (other : List ℕ) : Type 0 where
   pub other_taken : PrefixAgrees (took_out B other false ∷ wrote A abc 3 ∷ []) A 0 → ⊥
   -- or is less, once the end was told
   pub less_taken : PrefixAgrees (took_out B abc true ∷ wrote A abc 3 ∷ wrote A abc 3 ∷ []) A 0 → ⊥
+
+-- It doesn't agree (section 2.2) that what a look shows
+pub record LooksAreOther (other : List ℕ) (peek : Peek) : Type 0 where
+  -- has another byte than was written
+  pub other_byte : shown B 0 (looked B peek ∷ []) ≡ other → ShownAgrees (looked B peek ∷ wrote A abc 3 ∷ []) A 0 → ⊥
+  -- is more than was written
+  pub more : shown B 0 (looked B peek ∷ []) ≡ abc → ShownAgrees (looked B peek ∷ wrote A abc 2 ∷ []) A 0 → ⊥
+  -- was read before
+  pub again : shown B 0 (looked B peek ∷ []) ≡ abc → ShownAgrees (looked B peek ∷ got B abc ∷ wrote A abc 3 ∷ []) A 0 → ⊥
+  -- nor that what is taken then isn't what was shown
+  pub taken : shown B 0 (looked B peek ∷ []) ≡ abc → IsTakenAsShown 0 (took_out B other false ∷ looked B peek ∷ []) → ⊥
+  pub read : shown B 0 (looked B peek ∷ []) ≡ abc → IsTakenAsShown 0 (got B other ∷ looked B peek ∷ []) → ⊥
+  -- though nothing is said once it was read
+  pub read_before : IsTakenAsShown 0 (got B other ∷ got B abc ∷ [])
 
 abbrev pub both : End → End → World
 both a b = record { a = a; b = b }
@@ -287,6 +302,7 @@ pub record NoneBegin : Type 0 where
 
 pub record Exclusions : Type 0 where
   pub prefix : ReadIsNoPrefix (97 ∷ 120 ∷ [])
+  pub looks : (peek : Peek) → LooksAreOther (97 ∷ 120 ∷ []) peek
   pub whole : WholeIsMissing
   pub final_sizes : SizesDiffer
   pub worlds : WorldsDiffer

@@ -1,7 +1,7 @@
 -- Trusted.
 -- What happened to two ends, and what can be read off it: what was written, read, made and taken. The whole file is ours:
 -- RFC 9000 has no log.
-use Rattle.std.specs.Prelude.{◌≡◌, ℕ, Bool, true, false, not, ◌&&◌, ◌||◌, ◌==◌, List, [], ◌∷◌, ◌++◌, flat_map, take, Option, None, Some, Result, Ok, Err, slice_get, if◌then◌else◌, nat_le}
+use Rattle.std.specs.Prelude.{◌≡◌, ℕ, Bool, true, false, not, ◌&&◌, ◌||◌, ◌==◌, List, [], ◌∷◌, ◌++◌, flat_map, length, take, drop, Option, None, Some, Result, Ok, Err, slice_get, if◌then◌else◌, nat_le}
 use Rattle.std.specs.List.{list_any}
 use Rattle.qs_calls.specs.declared.closing.Received.{Received}
 use Rattle.qs_calls.specs.declared.closing.Received.TheVariants.{Done, Duplicate, BelowFloor, PeerClosed, NoMemory}
@@ -12,13 +12,14 @@ use Rattle.qs_calls.specs.declared.event.Side.{Side}
 use Rattle.qs_calls.specs.declared.event.Side.TheVariants.{A, B}
 use Rattle.qs_recv.specs.declared.half.Read.{Read}
 use Rattle.qs_recv.specs.declared.half.Read.TheVariants as reads
+use Rattle.qs_recv.specs.declared.half.Peek.TheVariants as looks
 use Rattle.qs_send.specs.Records.{Among}
 use Rattle.qs_send.specs.declared.piece.Item.TheVariants.{DataBlocked, StreamsBlocked}
 use Rattle.qs_wire.specs.Layout.{FrameValue}
 use Rattle.qs_machine.specs.Seen.{Seen, Control, seen_all}
 use Rattle.qs_machine.specs.Alone.{is_ours}
 use Rattle.qs_machine.specs.Plains.{frames_in}
-use Rattle.qs_machine.specs.EndStep.{Call, Answer, Open, Accept, AcceptOf, Write, Finish, Reset, Stop, StopAndDiscard, ReadUpTo, Consume, Receive, TakeFrame, TakeFrames, TokenAcked, TokenLost, Make, MakeAck, FillIn, Lose, Claim, RaiseLimits, Set, NoteClosed, ClosingPayload, Stored, Granted, Spent, GrantedStreams, Report}
+use Rattle.qs_machine.specs.EndStep.{Call, Answer, Open, Accept, AcceptOf, Write, Finish, Reset, Stop, StopAndDiscard, ReadUpTo, Consume, Peek, Receive, TakeFrame, TakeFrames, TokenAcked, TokenLost, Make, MakeAck, FillIn, Lose, Claim, RaiseLimits, Set, NoteClosed, ClosingPayload, Stored, Granted, Spent, GrantedStreams, Report}
 
 -- one call of an end, with its answer
 pub record Happening : Type 0 where
@@ -105,6 +106,7 @@ effects_of (Stop n code) answer = if_ok answer (λ done. Stopped n ∷ [])
 effects_of (StopAndDiscard n code) answer = if_ok answer (λ done. Stopped n ∷ [])
 effects_of (ReadUpTo n size) answer = if_ok answer.0 (λ value. read_effects n value answer.1)
 effects_of (Consume n most) answer = if_ok answer.0 (λ value. read_effects n value.read answer.1 ++ (if value.at_end then Ended n ∷ [] else []))
+effects_of (Peek n) answer = []
 effects_of (Receive k bytes) answer = if_ok answer (came_effects k bytes)
 effects_of (TakeFrame f) answer = if_ok answer (λ value. CameAlone (f ∷ []) ∷ [])
 effects_of (TakeFrames fs) answer = if_ok answer (λ value. CameAlone fs ∷ [])
@@ -147,6 +149,16 @@ gave_in n x = []
 -- the bytes of a stream that `read` gave at one end, and `consume` took, joined
 abbrev pub read : Side → ℕ → History → List ℕ
 read s n h = flat_map (gave_in n) (effects s h)
+
+-- what a look showed of a stream and wasn't read since, and what one more call leaves of that
+abbrev pub shown_after : ℕ → (call : Call) → Answer call → List ℕ → List ℕ
+shown_after n (Peek m) (Ok (looks.Bytes front back)) before = if n == m then front.now ++ back.now else before
+shown_after n (Peek m) answer before = if n == m then [] else before
+shown_after n call answer before = drop (length (flat_map (gave_in n) (effects_of call answer))) before
+
+abbrev pub shown : Side → ℕ → History → List ℕ
+shown s n [] = []
+shown s n (x ∷ h) = if same_side s x.end then shown_after n x.call x.answer (shown s n h) else shown s n h
 
 -- the stream's reader stopped
 abbrev pub stops_in : ℕ → Effect → Bool

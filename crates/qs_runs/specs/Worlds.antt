@@ -14,7 +14,7 @@ use Rattle.qs_machine.specs.Ends.{End, wide_end_made}
 use Rattle.qs_machine.specs.Seen.{Seen, Close, seen, seen_all}
 use Rattle.qs_machine.specs.Alone.{is_ours}
 use Rattle.qs_machine.specs.Plains.{frames_in, but_plain, DifferInPlain}
-use Rattle.qs_machine.specs.EndStep.{Call, EndStep, Open, Accept, AcceptOf, Write, Finish, Reset, Stop, StopAndDiscard, ReadUpTo, Consume, Receive, TakeFrame, TakeFrames, TokenAcked, TokenLost, Make, MakeAck, FillIn, Lose, Claim, RaiseLimits, Set, NoteClosed, ClosingPayload, Stored, Granted, Spent, GrantedStreams, Report}
+use Rattle.qs_machine.specs.EndStep.{Call, EndStep, Open, Accept, AcceptOf, Write, Finish, Reset, Stop, StopAndDiscard, ReadUpTo, Consume, Peek, Receive, TakeFrame, TakeFrames, TokenAcked, TokenLost, Make, MakeAck, FillIn, Lose, Claim, RaiseLimits, Set, NoteClosed, ClosingPayload, Stored, Granted, Spent, GrantedStreams, Report}
 use Rattle.qs_runs.specs.Logs.{Happening, History, other, payload, was_noted_closed, HasMade, HasLanded, is_in}
 
 pub record World : Type 0 where
@@ -74,6 +74,7 @@ May h w s (Stop n code) = ⊤
 May h w s (StopAndDiscard n code) = ⊤
 May h w s (ReadUpTo n size) = ⊤
 May h w s (Consume n most) = ⊤
+May h w s (Peek n) = ⊤
 May h w s (Receive k bytes) = IsPayload h (other s) k bytes ⊎ IsClose h (other s) bytes
 May h w s (TakeFrame f) = IsFrom h (other s) (seen f)
 May h w s (TakeFrames fs) = AllByRecursion (IsFrom h (other s)) (seen_all fs)

@@ -16,6 +16,7 @@ use Rattle.qs_world.specs.Plays.{AgreeingRun, HasAgreed}
 use Rattle.qs_runs.specs.Invariant.{WorldOk}
 use Rattle.qs_runs.proofs.Runs.{run_keeps, event_runs}
 use Rattle.qs_runs.proofs.Clauses.{agrees, step_agrees}
+use Rattle.qs_runs.proofs.Shown.{shown_agrees}
 
 -- an agreeing run is a run of events
 pub is_run : (a b : Settings) (log : Log) (w : World) → AgreeingRun a b log w → EventRun a b log w
@@ -31,13 +32,13 @@ this_step log v w event answer (x, at, step) y is = subst (λ z. WorldStep (happ
 
 -- and every run of events is one
 pub run_agrees : (a b : Settings) (log : Log) (w : World) → EventRun a b log w → AgreeingRun a b log w
-run_agrees a b [] w is = (is, agrees a b [] w (keeps a b [] w is))
+run_agrees a b [] w is = (is, agrees a b [] w (keeps a b [] w is) (shown_agrees a b [] w (event_runs a b [] w is)))
 run_agrees a b (x ∷ log) w (v, before, step) = (
   v,
   run_agrees a b log v before,
   step,
   λ y is. step_agrees a b (happened log) v (keeps a b log v before) y w (this_step log v w x.0 x.1 step y is),
-  agrees a b (happened (x ∷ log)) w (keeps a b (x ∷ log) w (v, before, step)),
+  agrees a b (happened (x ∷ log)) w (keeps a b (x ∷ log) w (v, before, step)) (shown_agrees a b (happened (x ∷ log)) w (event_runs a b (x ∷ log) w (v, before, step))),
 )
 
 -- the settings of the ends stay

@@ -1,4 +1,4 @@
-use Rattle.qs_runs.proofs.Clauses.{every_run_agrees}
+use Rattle.qs_runs.proofs.Shown.{every_run_agrees}
 use Rattle.qs_runs.proofs.laws.every_run_agrees.Goals as goal
 
 pub returns : goal.returns
