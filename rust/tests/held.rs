@@ -248,9 +248,32 @@ fn what_is_held_is_told() {
     assert!(live() as u64 <= before + NOTED);
 }
 
+/// From its second byte on a stream's buffer is all that a write takes, if it isn't cut short: what `held` tells then moves as the allocator's
+/// count does, and stays within the size of the send buffer.
+fn a_write_takes_what_held_tells() {
+    for size in [1000, 5000, 100_000, 262_144] {
+        let settings = Settings::small().send_buffer(size);
+        let end = || Endpoint::new(Role::Client, settings, settings.limits());
+        let mut client = end().expect("the settings fit");
+        let stream = client.open(Dir::Bidi).expect("a stream");
+        assert_eq!(client.write(stream, &[7]), Ok(1));
+        assert!(client.held().sending <= 64, "a byte takes no whole buffer");
+        for len in [1, 63, 500, 4000, 40_000, size] {
+            let bytes = vec![9; len.min(client.room(stream) as usize)];
+            let (before, told) = (live() as u64, client.held().sending);
+            assert_eq!(client.write(stream, &bytes), Ok(bytes.len()));
+            let (grown, sending) = (live() as u64 - before, client.held().sending);
+            assert_eq!(grown, sending - told, "{len} bytes of {size}");
+            assert!(client.kept_sum() <= sending && sending <= size as u64);
+        }
+        assert_eq!(client.held().sending, size as u64);
+    }
+}
+
 #[test]
 fn what_streams_hold() {
     what_is_held_is_told();
+    a_write_takes_what_held_tells();
     streams_that_are_over_keep_no_buffers();
     a_byte_takes_no_window();
     a_ring_follows_its_span();

@@ -27,11 +27,11 @@ abbrev pub least_held : RecvLane → ℕ
 least_held lane = if stored_on lane == 0 then 0 else least_room lane.arrived
 
 -- the most that the buffer of a sending half takes: nothing after a reset, and once all that was written and the end were acknowledged;
--- else 4,096 bytes, or while some are kept twice the most that it was set to
+-- else 4,096 bytes, or while some are kept the most that it was set to
 abbrev pub most_buffered : SendLane → ℕ
 most_buffered lane =
     if is_some lane.was_reset || is_whole lane then 0
-    else (if length lane.kept == 0 then 4096 else 2 * lane.widest)
+    else (if length lane.kept == 0 then 4096 else lane.widest)
 
 -- how many receiving halves keep bytes that come
 abbrev pub half_count : End → ℕ

@@ -192,7 +192,7 @@ impl Holds for Half {
 
     #[tactic(auto, using(crate::proofs::Tasks::half_least))]
     fn held(&self) -> u64 {
-        RecvHalf::held(self)
+        RecvHalf::held(self).bytes
     }
 }
 

@@ -20,6 +20,7 @@ use Rattle.qs_recv.specs.Rest.{given, lane_at_rest, IsAtRest, EndsAt}
 use Rattle.qs_recv.proofs.RingLaws.{put_known}
 use Rattle.std.specs.Result.{IsOk as IsOkOfResult}
 use Rattle.qs_recv.specs.Over.{IsOver}
+use Rattle.qs_recv.specs.Room.{needs_no_room}
 
 -- where bytes are thrown away
 pub let_go_gone : (lane : RecvLane) (size : ℕ) → lane.arrived.discarding ≡ true → size ≡ 0 → IsLetGo lane size
@@ -140,6 +141,9 @@ came_at_rest w n e limit f r s reader_done h =
 pub end_at_rest : (w : Windows) (n e limit : ℕ) (f r s : Option ℕ) (reader_done : Bool) → IsAtRest (lane_at_rest w n e limit f r s reader_done) n e → e ≤ MAX_VARINT
 end_at_rest w n e limit f r s reader_done h = grind (arith, nat_tests, end_of-below)
 
+pub no_room : (w : Windows) (n e limit : ℕ) (f r s : Option ℕ) (reader_done : Bool) → IsAtRest (lane_at_rest w n e limit f r s reader_done) n e → needs_no_room (lane_at_rest w n e limit f r s reader_done) ≡ true
+no_room w n e limit f r s reader_done h = grind (arith, nat_tests, end_of-below)
+
 pub whole_below : (e size : ℕ) → nat_le size e ≡ covers (numbers 0 e) 0 size
 whole_below e size = grind (arith, nat_tests, covers-of, known_below, news_below)
 
@@ -155,6 +159,7 @@ at_rest_new w share some small =
       stop_fits = tt;
       all_read = λ _. refl;
       ended = λ reader_done. absurd (both_ways false refl reader_done);
+      nothing = λ _ _. refl;
     }
 
 -- Where bytes are thrown away
@@ -213,6 +218,7 @@ at_rest_taken w n e e' limit offset f r s reader_done bytes fin ends ok h =
       stop_fits = h.stop_fits;
       all_read = ends.all_read;
       ended = λ is_told on. same_size f (offset + length bytes) (length bytes) n fin (highest lane) (unbroken lane offset (length bytes) fin ok) (h.ended is_told on);
+      nothing = λ untold on. omega (arith, ends.all_read on, h.all_read on, h.nothing untold on);
     }
 
 pub grown_at_rest : (w : Windows) (n e e' limit offset : ℕ) (f r s : Option ℕ) (reader_done : Bool) (bytes : List ℕ) (fin : Bool) → EndsAt (lane_at_rest w n e limit f r s reader_done) offset bytes e'

@@ -26,12 +26,14 @@ lane_at_rest windows read_count end limit final_size reset_code stop_code reader
       share = windows.share;
     }
 
--- it is lawful, a stop can be told, and until bytes are thrown away all that came was read, which is all of the stream once the end was told
+-- it is lawful, a stop can be told, and until bytes are thrown away all that came was read: all of the stream once the end was told, and
+-- nothing before
 pub record IsAtRest (lane : RecvLane) (read_count end : ℕ) : Type 0 where
   pub lawful : IsLawful lane
   pub stop_fits : CodeFits lane.stop_code
   pub all_read : lane.arrived.discarding ≡ false → read_count ≡ end
   pub ended : lane.reader_done ≡ true → lane.arrived.discarding ≡ false → lane.final_size ≡ Some read_count
+  pub nothing : lane.reader_done ≡ false → lane.arrived.discarding ≡ false → end ≡ 0
 
 -- once a frame's bytes were put in order, or passed over after a reset, the offsets that came are those below `end`, and nothing is stored
 pub record EndsAt (lane : RecvLane) (offset : ℕ) (bytes : List ℕ) (end : ℕ) : Type 0 where

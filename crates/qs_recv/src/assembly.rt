@@ -103,6 +103,13 @@ pub trait Assembly: Drop {
         ensures { result.now ≡ (holds self.now).received };
 }
 
+/// The memory that a half takes for bytes that arrived: so many bytes, and the assembly that takes them. A half without one takes none.
+#[derive(Clone, Copy, Drop)]
+pub struct Memory<'a, A: Assembly> {
+    pub bytes: u64,
+    pub assembly: Option<&'a A>,
+}
+
 /// An assembly whose next bytes can be looked at where they are. Beside `Assembly`, because a list of chunks can't promise it.
 pub trait Peeking: Skipping {
     /// The next bytes to be read, all up to the first missing one, in two pieces if a ring's edge lies between.

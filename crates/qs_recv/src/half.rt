@@ -10,7 +10,7 @@ ghost use Rattle.qs_recv.specs.Changes.{stream_changes};
 ghost use Rattle.qs_recv.specs.Peek.{IsPeek};
 ghost use Rattle.qs_recv.specs.Room.{IsRoomOf};
 
-use crate::assembly::{Assembly, Peeking, Skipping};
+use crate::assembly::{Assembly, Memory, Peeking, Skipping};
 use crate::credit::Share;
 use crate::live::LiveHalf;
 use crate::over::Over;
@@ -527,26 +527,26 @@ impl<A: Assembly> RecvHalf<A> {
     }
 
     /// How many bytes of memory it takes to store some, as the assembly counts them: at most 4,096, or while some are stored four times the
-    /// highest offset less what was consumed; none once the end was read, or if bytes are discarded.
-    pub fn held(&self) -> u64
-        ensures exact { IsRoomOf A.holds A.size self.now.arrived result }
-        ensures room { map.len self.now.arrived.stored ≤ result }
-        ensures least { 0 < map.len self.now.arrived.stored → A.least self.now.arrived ≤ result }
-        ensures bound { result ≤ max 4096 (4 * (highest self.now - taken self.now)) }
-        ensures idle { map.len self.now.arrived.stored ≡ 0 → result ≤ 4096 }
-        ensures over { IsTrue self.now.reader_done → result ≡ 0 }
-        ensures gone { IsTrue self.now.arrived.discarding → result ≡ 0 }
+    /// highest offset less what was consumed; none once the end was read, or if bytes are discarded. The assembly stands beside, so
+    /// that it is known whose memory this is.
+    pub fn held(&self) -> Memory<'_, A>
+        ensures exact { IsRoomOf A.holds A.size self.now result.assembly result.bytes }
+        ensures room { map.len self.now.arrived.stored ≤ result.bytes }
+        ensures least { 0 < map.len self.now.arrived.stored → A.least self.now.arrived ≤ result.bytes }
+        ensures bound { result.bytes ≤ max 4096 (4 * (highest self.now - taken self.now)) }
+        ensures idle { map.len self.now.arrived.stored ≡ 0 → result.bytes ≤ 4096 }
+        ensures over { IsTrue self.now.reader_done → result.bytes ≡ 0 }
+        ensures gone { IsTrue self.now.arrived.discarding → result.bytes ≡ 0 }
     {
         match &self.parts {
-            Parts::Kept(Kept::Over(over)) => {
-                let rest = over.rest();
-                self.learn_no_room(&rest);
-                rest.stored()
-            }
-            Parts::Kept(Kept::Rest(rest)) => {
-                self.learn_no_room(rest);
-                rest.stored()
-            }
+            Parts::Kept(Kept::Over(over)) => Memory {
+                bytes: over.rest().stored(),
+                assembly: None,
+            },
+            Parts::Kept(Kept::Rest(rest)) => Memory {
+                bytes: rest.stored(),
+                assembly: None,
+            },
             Parts::Live(live) => live.held(),
         }
     }
@@ -630,13 +630,6 @@ impl<A: Assembly> RecvHalf<A> {
         ensures { result ≡ rest.now }
     {
         LiveHalf::revived(self.alloc, rest)
-    }
-
-    // A half at rest takes no memory, as an assembly doesn't that holds the same.
-    fn learn_no_room(&self, rest: &Rest)
-        ensures { IsRoomOf A.holds A.size rest.now.arrived 0 }
-    {
-        let _assembly = LiveHalf::<A>::assembly_at_rest(self.alloc, rest);
     }
 }
 

@@ -13,7 +13,7 @@ mod ring;
 mod ring_assembly;
 mod window;
 
-pub use assembly::{Assembly, Peeking, Skipping};
+pub use assembly::{Assembly, Memory, Peeking, Skipping};
 pub use credit::{Share, next_limit, step_of};
 pub use half::{Highest, Judged, Peek, Read, RecvFault, RecvHalf, RecvState, Sizes, Standing};
 pub use ring_assembly::RingAssembly;

@@ -10,7 +10,7 @@ ghost use Rattle.qs_recv.specs.Changes.{stream_changes};
 ghost use Rattle.qs_recv.specs.Peek.{IsPeek};
 ghost use Rattle.qs_recv.specs.Room.{IsRoomOf};
 
-use crate::assembly::{Assembly, Peeking, Skipping};
+use crate::assembly::{Assembly, Memory, Peeking, Skipping};
 use crate::credit::{limit_with, next_limit};
 use crate::half::{Highest, Judged, Peek, Read, RecvFault, RecvState, Sizes, Standing};
 use crate::over::Over;
@@ -490,16 +490,19 @@ impl<A: Assembly> LiveHalf<A> {
         }
     }
 
-    pub(crate) fn held(&self) -> u64
-        ensures exact { IsRoomOf A.holds A.size self.now.arrived result }
-        ensures room { map.len self.now.arrived.stored ≤ result }
-        ensures least { 0 < map.len self.now.arrived.stored → A.least self.now.arrived ≤ result }
-        ensures bound { result ≤ max 4096 (4 * (highest self.now - taken self.now)) }
-        ensures idle { map.len self.now.arrived.stored ≡ 0 → result ≤ 4096 }
-        ensures over { IsTrue self.now.reader_done → result ≡ 0 }
-        ensures gone { IsTrue self.now.arrived.discarding → result ≡ 0 }
+    pub(crate) fn held(&self) -> Memory<'_, A>
+        ensures exact { IsRoomOf A.holds A.size self.now result.assembly result.bytes }
+        ensures room { map.len self.now.arrived.stored ≤ result.bytes }
+        ensures least { 0 < map.len self.now.arrived.stored → A.least self.now.arrived ≤ result.bytes }
+        ensures bound { result.bytes ≤ max 4096 (4 * (highest self.now - taken self.now)) }
+        ensures idle { map.len self.now.arrived.stored ≡ 0 → result.bytes ≤ 4096 }
+        ensures over { IsTrue self.now.reader_done → result.bytes ≡ 0 }
+        ensures gone { IsTrue self.now.arrived.discarding → result.bytes ≡ 0 }
     {
-        self.assembly.held()
+        Memory {
+            bytes: self.assembly.held(),
+            assembly: Some(&self.assembly),
+        }
     }
 
     pub(crate) fn read_count(&self) -> u64

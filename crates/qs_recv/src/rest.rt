@@ -7,6 +7,7 @@ ghost use Rattle.qs_recv.specs.Lawful.{IsLawful};
 ghost use Rattle.qs_recv.specs.Rest.{EndsAt, IsAtRest, given};
 ghost use Rattle.qs_recv.specs.Peek.{IsPeek};
 ghost use Rattle.qs_recv.specs.News.{is_readable};
+ghost use Rattle.qs_recv.specs.Room.{needs_no_room};
 ghost use Rattle.qs_recv.specs.Sound.{CodeFits};
 ghost use Rattle.qs_recv.specs.Lane.{new_lane, highest, highest_after, noted, taken, state, is_whole, is_over, check_stream, check_reset, take_stream, take_reset, read_answer, bytes_read, after_read, stop, stop_and_discard, raise, raise_answer, raised_limit, set_window, MAX_WINDOW};
 
@@ -302,6 +303,7 @@ impl Rest {
         ensures none { result ≡ 0 }
         ensures empty { self.now.arrived.stored ≡ map.empty }
         ensures within { taken self.now ≤ highest self.now }
+        ensures room { needs_no_room self.now ≡ true }
     {
         let _ = &self.limit;
         0

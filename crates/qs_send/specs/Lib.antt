@@ -16,6 +16,7 @@ pub mod Codes
 pub mod LostPass
 pub mod KeptBytes
 pub mod Offsets
+pub mod Memory
 pub mod Gone
 pub mod Halves
 pub mod LendsHalf

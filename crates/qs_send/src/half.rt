@@ -6,9 +6,10 @@ ghost use Rattle.qs_send.specs.Sound.{IsLawful};
 ghost use Rattle.qs_send.specs.declared.parts.Reset.{Reset};
 ghost use Rattle.qs_send.specs.Changes.{stop_changes, asked_changes};
 ghost use Rattle.qs_send.specs.Writable.{is_writable};
+ghost use Rattle.qs_send.specs.Memory.{IsMemoryOf};
 ghost use Rattle.qs_send.specs.Lane.{new_sending, free_room, unacked_from, accepted, refusal, answer_of, reset_refusal, is_whole, state, declared_size, after_write, after_finish, after_reset, first_code, after_stopped, after_asked, after_reset_acked, after_blocked, after_allow, after_buffer, after_sent, after_acked, after_lost};
 
-use crate::offsets::Offsets;
+use crate::offsets::{Memory, Offsets};
 use crate::parts::{Chunk, SendFault, SendState};
 use qs_ranges::{MaybeNumber, NoMemory};
 use qs_wire::StreamId;
@@ -66,7 +67,7 @@ impl Model for SendHalf {
     ghost invariant = { λ h. IsLawful (record {
       lane = record { id = h.id; written = h.offsets.parts.written; kept = h.offsets.parts.kept; acked = h.offsets.parts.acked; sent_end = h.offsets.parts.sent_end; finished = h.finished; fin_sent = h.fin_sent; fin_acked = h.fin_acked; blocked_sent = h.blocked_sent; was_reset = reset_at h.offsets.parts.sent_end h.reset_code; reset_acked = h.reset_acked; limit = h.limit; buffer = h.buffer; widest = h.widest; stopped = h.stop_code };
       due = record { offsets = h.offsets.parts.due; fin = h.fin_noted && not h.fin_acked };
-    }) × (h.offsets.room ≤ 2 * h.widest) × IsFreed (reset_at h.offsets.parts.sent_end h.reset_code) h.fin_acked h.offsets.parts.kept h.offsets.room };
+    }) × (h.offsets.room ≤ h.widest) × IsFreed (reset_at h.offsets.parts.sent_end h.reset_code) h.fin_acked h.offsets.parts.kept h.offsets.room };
 }
 
 impl SendHalf {
@@ -387,16 +388,20 @@ impl SendHalf {
         (self.buffer as usize).saturating_sub(self.offsets.kept_len())
     }
 
-    /// How many bytes of memory the buffer takes: at least those that are kept. While some are, up to twice the most that it was set to,
-    /// since it grows by doubling; else no more than 4,096, and nothing after a reset and in Data Recvd.
-    pub fn held(&self) -> u64
-        ensures kept { length self.now.lane.kept ≤ result }
-        ensures bound { result ≤ 2 * self.now.lane.widest }
-        ensures idle { length self.now.lane.kept ≡ 0 → result ≤ 4096 }
-        ensures reset { is_some self.now.lane.was_reset ≡ true → result ≡ 0 }
-        ensures whole { is_whole self.now.lane ≡ true → result ≡ 0 }
+    /// How many bytes of memory the buffer takes: at least those that are kept, and up to the most that it was set to. No more than 4,096
+    /// if none is kept, and nothing after a reset and in Data Recvd. The offsets stand beside, so that it is known whose memory this is.
+    pub fn held(&self) -> Memory<'_>
+        ensures exact { IsMemoryOf self.now.lane result.offsets result.bytes }
+        ensures kept { length self.now.lane.kept ≤ result.bytes }
+        ensures bound { result.bytes ≤ self.now.lane.widest }
+        ensures idle { length self.now.lane.kept ≡ 0 → result.bytes ≤ 4096 }
+        ensures reset { is_some self.now.lane.was_reset ≡ true → result.bytes ≡ 0 }
+        ensures whole { is_whole self.now.lane ≡ true → result.bytes ≡ 0 }
     {
-        self.offsets.held() as u64
+        Memory {
+            bytes: self.offsets.held() as u64,
+            offsets: Some(&self.offsets),
+        }
     }
 
     /// Why a write and a finish are refused, `None` if they aren't: `WasReset` after a reset, else `Finished` after `finish` (RFC 9000,

@@ -64,13 +64,12 @@ impl Kept {
         self.ring.len()
     }
 
-    /// Appends the bytes. It grows by doubling, since only then bytes are moved: so for `most` bytes at most no more than twice as many are
-    /// allocated.
+    /// Appends the bytes. It grows by doubling, since only then bytes are moved, but past `most` no further than the bytes need.
     #[tactic(auto, using(crate::proofs::Around::around_len, crate::proofs::Around::at_front))]
     pub fn append(&mut self, bytes: &[u8], most: usize) -> Result<(), NoMemory>
         ensures ok { OnOk result (self.new.bytes ≡ self.old.bytes ++ bytes.now) }
         ensures err { OnErr result (self.new.bytes ≡ self.old.bytes) }
-        ensures room { length self.old.bytes + length bytes.now ≤ most → self.old.room ≤ 2 * most → self.new.room ≤ 2 * most }
+        ensures room { self.new.room ≤ max self.old.room (max most (length self.old.bytes + length bytes.now)) }
     {
         let count = self.count + bytes.len();
         if count > self.ring.len() {

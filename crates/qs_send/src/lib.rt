@@ -27,6 +27,7 @@ pub use half::{MAX_VARINT, SendHalf};
 pub use halves::SendHalves;
 pub use lost_pass::LostPass;
 pub use lost_records::LostRecords;
+pub use offsets::{Memory, Offsets};
 pub use parts::{Chunk, Reset, SendFault, SendState};
 pub use piece::{Item, Piece};
 pub use records::Records;

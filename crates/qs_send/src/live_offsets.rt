@@ -1,6 +1,6 @@
 //! The written offsets of a half of which some are still to be sent or acknowledged.
 ghost use Rattle.std.specs.FinSet as set;
-ghost use Rattle.std.specs.Prelude.{◌≡◌, ℕ, ◌+◌, ◌-◌, ◌*◌, ◌≤◌, ◌<◌, true, false, IsTrue, ◌++◌, length, take, drop, OnOk, OnErr, IfSome, IfNone};
+ghost use Rattle.std.specs.Prelude.{◌≡◌, ℕ, ◌+◌, ◌-◌, ◌*◌, ◌≤◌, ◌<◌, true, false, IsTrue, ◌++◌, length, take, drop, max, OnOk, OnErr, IfSome, IfNone};
 ghost use Rattle.qs_ranges.specs.Numbers.{MAX_VARINT, missing_from, MissesRange, IsRunFrom, EndsBefore};
 ghost use Rattle.qs_send.specs.Offsets.{at_rest, parts_at_rest, with_written, with_sent, with_acked, with_lost, with_none};
 
@@ -90,7 +90,7 @@ impl LiveOffsets {
         requires small { self.old.parts.written + length bytes.now ≤ MAX_VARINT }
         ensures ok { OnOk result (self.new.parts ≡ with_written self.old.parts bytes.now) }
         ensures err { OnErr result (self.new.parts ≡ self.old.parts) }
-        ensures room { length self.old.parts.kept + length bytes.now ≤ most → self.old.room ≤ 2 * most → self.new.room ≤ 2 * most }
+        ensures room { self.new.room ≤ max self.old.room (max most (length self.old.parts.kept + length bytes.now)) }
     {
         let before = self.kept.len();
         let end = self.written + bytes.len() as u64;

@@ -1,5 +1,5 @@
 //! The written offsets of a half. Those that are all acknowledged take no memory.
-ghost use Rattle.std.specs.Prelude.{◌≡◌, ℕ, ◌+◌, ◌-◌, ◌*◌, ◌≤◌, ◌<◌, true, ◌++◌, length, take, drop, OnOk, OnErr, IfSome, IfNone};
+ghost use Rattle.std.specs.Prelude.{◌≡◌, ℕ, ◌+◌, ◌-◌, ◌*◌, ◌≤◌, ◌<◌, true, ◌++◌, length, take, drop, max, OnOk, OnErr, IfSome, IfNone};
 ghost use Rattle.qs_ranges.specs.Numbers.{MAX_VARINT, missing_from, MissesRange, IsRunFrom, EndsBefore};
 ghost use Rattle.qs_send.specs.Offsets.{at_rest, with_written, with_sent, with_acked, with_lost, with_none};
 
@@ -11,11 +11,19 @@ use std::marker::Model;
 /// Without a box as a half begins, and again once its last ACK has come: most streams are then over, and stay for the connection's life. In
 /// between the box stays, since a stream that is written to again would take it anew.
 #[derive(Drop)]
-pub(crate) struct Offsets {
+pub struct Offsets {
     alloc: Global,
     written: u64,
     // None: each offset is acknowledged, and nothing is kept or due.
     live: Option<Box<LiveOffsets>>,
+}
+
+/// The memory that a half takes for the bytes that it keeps: so many bytes, and the offsets whose buffer takes them. A half that is over takes
+/// none.
+#[derive(Clone, Copy, Drop)]
+pub struct Memory<'a> {
+    pub bytes: u64,
+    pub offsets: Option<&'a Offsets>,
 }
 
 impl Model for Offsets {
@@ -108,7 +116,7 @@ impl Offsets {
         requires small { self.old.parts.written + length bytes.now ≤ MAX_VARINT }
         ensures ok { OnOk result (self.new.parts ≡ with_written self.old.parts bytes.now) }
         ensures err { OnErr result (self.new.parts ≡ self.old.parts) }
-        ensures room { length self.old.parts.kept + length bytes.now ≤ most → self.old.room ≤ 2 * most → self.new.room ≤ 2 * most }
+        ensures room { self.new.room ≤ max self.old.room (max most (length self.old.parts.kept + length bytes.now)) }
     {
         let Some(live) = &mut self.live else {
             return self.begin(bytes, most);
@@ -125,7 +133,7 @@ impl Offsets {
         requires small { self.old.parts.written + length bytes.now ≤ MAX_VARINT }
         ensures ok { OnOk result (self.new.parts ≡ with_written self.old.parts bytes.now) }
         ensures err { OnErr result (self.new.parts ≡ self.old.parts) }
-        ensures room { length self.old.parts.kept + length bytes.now ≤ most → self.old.room ≤ 2 * most → self.new.room ≤ 2 * most }
+        ensures room { self.new.room ≤ max self.old.room (max most (length self.old.parts.kept + length bytes.now)) }
     {
         let mut live = Box::new(self.alloc, LiveOffsets::at_rest(self.alloc, self.written))?;
         live.write(bytes, most)?;

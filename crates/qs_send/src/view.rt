@@ -5,11 +5,13 @@ ghost use Rattle.qs_send.specs.Changes.{stop_changes, asked_changes};
 ghost use Rattle.qs_send.specs.Chunks.{has_unsent, IsNextChunk, HasNoChunk, IsHeldByRoom, HasBytes};
 ghost use Rattle.qs_send.specs.Halves.{over_sending, IsOver, IsOverSlot};
 ghost use Rattle.qs_send.specs.Lane.{bytes_of, declared_size, free_room, is_whole, refusal, state, unacked_from};
+ghost use Rattle.qs_send.specs.Memory.{IsMemoryOf};
 ghost use Rattle.qs_send.specs.Sound.{IsLawful};
 ghost use Rattle.qs_send.specs.declared.parts.Reset.{Reset};
 
 use crate::half::SendHalf;
 use crate::halves::slot::SendSlot;
+use crate::offsets::Memory;
 use crate::parts::{Chunk, SendFault, SendState};
 use std::marker::Model;
 
@@ -217,15 +219,19 @@ impl<'a> SendView<'a> {
     }
 
     #[inline(always)]
-    pub fn held(&self) -> u64
-        ensures kept { length self.now.lane.kept ≤ result }
-        ensures bound { result ≤ 2 * self.now.lane.widest }
-        ensures idle { length self.now.lane.kept ≡ 0 → result ≤ 4096 }
-        ensures reset { is_some self.now.lane.was_reset ≡ true → result ≡ 0 }
-        ensures whole { is_whole self.now.lane ≡ true → result ≡ 0 }
+    pub fn held(&self) -> Memory<'a>
+        ensures exact { IsMemoryOf self.now.lane result.offsets result.bytes }
+        ensures kept { length self.now.lane.kept ≤ result.bytes }
+        ensures bound { result.bytes ≤ self.now.lane.widest }
+        ensures idle { length self.now.lane.kept ≡ 0 → result.bytes ≤ 4096 }
+        ensures reset { is_some self.now.lane.was_reset ≡ true → result.bytes ≡ 0 }
+        ensures whole { is_whole self.now.lane ≡ true → result.bytes ≡ 0 }
     {
         match self.half {
-            Viewed::Over(_) => 0,
+            Viewed::Over(_) => Memory {
+                bytes: 0,
+                offsets: None,
+            },
             Viewed::Full(half) => half.held(),
         }
     }

@@ -206,7 +206,7 @@ fn a_reset_needs_no_memory() {
         watched(|| half.take_reset(7, 9));
         assert_eq!((half.reset_code(), half.final_size()), (Some(7), Some(9)));
         let sizes = half.sizes();
-        assert_eq!((half.held(), sizes.stored, sizes.taken), (0, 0, 9));
+        assert_eq!((half.held().bytes, sizes.stored, sizes.taken), (0, 0, 9));
         assert_eq!(watched(|| half.read(&mut [0; 4])), Read::Reset(7));
         assert_eq!(half.state(), RecvState::ResetRead);
     }

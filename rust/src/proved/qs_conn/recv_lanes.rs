@@ -133,7 +133,7 @@ impl RecvLanes {
 
 impl Holds for Half {
     fn held(&self) -> u64 {
-        RecvHalf::held(self)
+        RecvHalf::held(self).bytes
     }
 }
 

@@ -153,7 +153,7 @@ impl Holds for SendLanes {
         let mut held: u64 = 0;
         for index in 0..self.halves.len() {
             let half = self.halves.at(index);
-            held = held.saturating_add(half.held());
+            held = held.saturating_add(half.held().bytes);
         }
         held
     }

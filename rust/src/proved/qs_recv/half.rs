@@ -2,7 +2,7 @@
 //! The receiving half of a stream (RFC 9000, sections 2.2, 3.2, 3.5 and 4).
 use crate::shim::Box;
 
-use crate::proved::qs_recv::assembly::{Assembly, Peeking, Skipping};
+use crate::proved::qs_recv::assembly::{Assembly, Memory, Peeking, Skipping};
 use crate::proved::qs_recv::credit::Share;
 use crate::proved::qs_recv::live::LiveHalf;
 use crate::proved::qs_recv::over::Over;
@@ -421,17 +421,19 @@ impl<A: Assembly> RecvHalf<A> {
     }
 
     /// How many bytes of memory it takes to store some, as the assembly counts them: at most 4,096, or while some are stored four times the
-    /// highest offset less what was consumed; none once the end was read, or if bytes are discarded.
+    /// highest offset less what was consumed; none once the end was read, or if bytes are discarded. The assembly stands beside, so
+    /// that it is known whose memory this is.
     #[inline]
-    pub fn held(&self) -> u64 {
+    pub fn held(&self) -> Memory<'_, A> {
         match &self.parts {
-            Parts::Kept(Kept::Over(over)) => {
-                let rest = over.rest();
-                rest.stored()
-            }
-            Parts::Kept(Kept::Rest(rest)) => {
-                rest.stored()
-            }
+            Parts::Kept(Kept::Over(over)) => Memory {
+                bytes: over.rest().stored(),
+                assembly: None,
+            },
+            Parts::Kept(Kept::Rest(rest)) => Memory {
+                bytes: rest.stored(),
+                assembly: None,
+            },
             Parts::Live(live) => live.held(),
         }
     }
@@ -504,7 +506,6 @@ impl<A: Assembly> RecvHalf<A> {
     fn revived(&self, rest: &Rest) -> LiveHalf<A> {
         LiveHalf::revived(self.alloc, rest)
     }
-
 }
 
 impl<A: Peeking> RecvHalf<A> {

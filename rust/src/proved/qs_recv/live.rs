@@ -1,7 +1,7 @@
 // Made from crates/qs_recv/src/live.rt by rust/erase; not edited by hand.
 //! A receiving half that may store bytes.
 
-use crate::proved::qs_recv::assembly::{Assembly, Peeking, Skipping};
+use crate::proved::qs_recv::assembly::{Assembly, Memory, Peeking, Skipping};
 use crate::proved::qs_recv::credit::{limit_with, next_limit};
 use crate::proved::qs_recv::half::{Highest, Judged, Peek, Read, RecvFault, RecvState, Sizes, Standing};
 use crate::proved::qs_recv::over::Over;
@@ -390,8 +390,11 @@ impl<A: Assembly> LiveHalf<A> {
     }
 
     #[inline]
-    pub(crate) fn held(&self) -> u64 {
-        self.assembly.held()
+    pub(crate) fn held(&self) -> Memory<'_, A> {
+        Memory {
+            bytes: self.assembly.held(),
+            assembly: Some(&self.assembly),
+        }
     }
 
     #[inline]

@@ -1,7 +1,7 @@
 // Made from crates/qs_send/src/half.rt by rust/erase; not edited by hand.
 //! The sending half of a stream (RFC 9000, sections 2.2, 3.1 and 13.3).
 
-use crate::proved::qs_send::offsets::Offsets;
+use crate::proved::qs_send::offsets::{Memory, Offsets};
 use crate::proved::qs_send::parts::{Chunk, SendFault, SendState};
 use crate::proved::qs_ranges::{MaybeNumber, NoMemory};
 use crate::proved::qs_wire::StreamId;
@@ -291,11 +291,14 @@ impl SendHalf {
         (self.buffer as usize).saturating_sub(self.offsets.kept_len())
     }
 
-    /// How many bytes of memory the buffer takes: at least those that are kept. While some are, up to twice the most that it was set to,
-    /// since it grows by doubling; else no more than 4,096, and nothing after a reset and in Data Recvd.
+    /// How many bytes of memory the buffer takes: at least those that are kept, and up to the most that it was set to. No more than 4,096
+    /// if none is kept, and nothing after a reset and in Data Recvd. The offsets stand beside, so that it is known whose memory this is.
     #[inline]
-    pub fn held(&self) -> u64 {
-        self.offsets.held() as u64
+    pub fn held(&self) -> Memory<'_> {
+        Memory {
+            bytes: self.offsets.held() as u64,
+            offsets: Some(&self.offsets),
+        }
     }
 
     /// Why a write and a finish are refused, `None` if they aren't: `WasReset` after a reset, else `Finished` after `finish` (RFC 9000,

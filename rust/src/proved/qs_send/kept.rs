@@ -39,8 +39,7 @@ impl Kept {
         self.ring.len()
     }
 
-    /// Appends the bytes. It grows by doubling, since only then bytes are moved: so for `most` bytes at most no more than twice as many are
-    /// allocated.
+    /// Appends the bytes. It grows by doubling, since only then bytes are moved, but past `most` no further than the bytes need.
     #[inline]
     pub fn append(&mut self, bytes: &[u8], most: usize) -> Result<(), NoMemory> {
         let count = self.count + bytes.len();

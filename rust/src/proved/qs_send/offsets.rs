@@ -8,11 +8,19 @@ use crate::shim::alloc::Global;
 
 /// Without a box as a half begins, and again once its last ACK has come: most streams are then over, and stay for the connection's life. In
 /// between the box stays, since a stream that is written to again would take it anew.
-pub(crate) struct Offsets {
+pub struct Offsets {
     alloc: Global,
     written: u64,
     // None: each offset is acknowledged, and nothing is kept or due.
     live: Option<Box<LiveOffsets>>,
+}
+
+/// The memory that a half takes for the bytes that it keeps: so many bytes, and the offsets whose buffer takes them. A half that is over takes
+/// none.
+#[derive(Clone, Copy)]
+pub struct Memory<'a> {
+    pub bytes: u64,
+    pub offsets: Option<&'a Offsets>,
 }
 
 impl Offsets {

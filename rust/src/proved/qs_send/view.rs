@@ -3,6 +3,7 @@
 
 use crate::proved::qs_send::half::SendHalf;
 use crate::proved::qs_send::halves::slot::SendSlot;
+use crate::proved::qs_send::offsets::Memory;
 use crate::proved::qs_send::parts::{Chunk, SendFault, SendState};
 
 pub struct SendView<'a> {
@@ -146,9 +147,12 @@ impl<'a> SendView<'a> {
     }
 
     #[inline(always)]
-    pub fn held(&self) -> u64 {
+    pub fn held(&self) -> Memory<'a> {
         match self.half {
-            Viewed::Over(_) => 0,
+            Viewed::Over(_) => Memory {
+                bytes: 0,
+                offsets: None,
+            },
             Viewed::Full(half) => half.held(),
         }
     }

@@ -175,7 +175,7 @@ fn take(half: &mut SendHalf, step: Step) -> Result<bool, Fail> {
             return Ok((half.written(), half.sent_end(), half.room()) == (written, sent_end, room));
         }
         Step::Due(offset, end) => return Ok((half.lowest_due(), half.end_due()) == (offset, end)),
-        Step::TakesMemory(some) => return Ok((half.held() > 0) == some),
+        Step::TakesMemory(some) => return Ok((half.held().bytes > 0) == some),
     }
     Ok(true)
 }

@@ -16,7 +16,7 @@ invariant_of-self-2 c =
     let buffered = h.bytes.buffered in
     let widest = h.bytes.widest in
     rw c.in_default-write.ensures.ok
-    (lawful_write _ _ open_lane unfinished (omega (arith, taken, len, most, small)) (omega (arith, taken, len, most, room, buffered, widest)) h, c.in_default-write.ensures.room (omega (arith, taken, len, most, room, buffered, widest)) c.self.invariant.1, freed_open _ _ _ _ h open_lane unfinished)
+    (lawful_write _ _ open_lane unfinished (omega (arith, taken, len, most, small)) (omega (arith, taken, len, most, room, buffered, widest)) h, omega (arith, c.in_default-write.ensures.room, c.self.invariant.1, taken, len, most, room, buffered, widest), freed_open _ _ _ _ h open_lane unfinished)
 
 pub returns-then-len-eq0-clause-accepted : goal.returns-then-len-eq0-clause-accepted
 returns-then-len-eq0-clause-accepted c = search (rules, write_nothing)
