@@ -1,7 +1,7 @@
 //! Single calls of an endpoint, with frames of 100 bytes on an open stream. `bench/calls` counts the functions that each one calls.
 
 use crate::counting::gotsavena_counted;
-use gotsavena::{Dir, Endpoint, Made, Read, Received, Role, Settings, StreamId};
+use gotsavena::{Dir, Endpoint, Read, Received, Role, Settings, StreamId};
 
 /// The acts, in the order in which they are done.
 #[derive(Clone, Copy, PartialEq, Eq)]
@@ -29,7 +29,8 @@ struct Scene {
     server: Endpoint,
     stream: StreamId,
     packet: [u8; 1200],
-    made: Made,
+    number: u64,
+    len: usize,
     ack: Vec<u8>,
 }
 
@@ -37,9 +38,8 @@ const BYTES: [u8; 100] = [7; 100];
 
 // A payload that acknowledges this packet alone.
 fn ack_of(number: u64) -> Vec<u8> {
-    let packet = number..number + 1;
     let mut ack = vec![0; 16];
-    let (_, len) = gotsavena::put_ack(std::slice::from_ref(&packet), &mut ack).expect("it fits");
+    let (_, len) = gotsavena::put_ack(&[(number, number)], 0, &mut ack).expect("it fits");
     ack.truncate(len);
     ack
 }
@@ -57,11 +57,8 @@ impl Scene {
             client,
             server: end(Role::Server),
             packet: [0; 1200],
-            made: Made {
-                number: 0,
-                len: 0,
-                is_ack_eliciting: false,
-            },
+            number: 0,
+            len: 0,
             ack: ack_of(1),
         };
         for act in [Act::Write, Act::Make, Act::Receive, Act::Read] {
@@ -77,12 +74,13 @@ impl Scene {
             Act::Write => assert_eq!(self.client.write(self.stream, &BYTES), Ok(BYTES.len())),
             Act::Make => {
                 let made = self.client.make_packet(&mut self.packet);
-                self.made = made.expect("there is memory").expect("bytes are due");
+                let made = made.expect("there is memory").expect("bytes are due");
+                (self.number, self.len) = (made.number, made.len);
             }
             Act::Receive => {
-                let payload = &self.packet[..self.made.len];
+                let payload = &self.packet[..self.len];
                 assert_eq!(
-                    self.server.receive(self.made.number, payload),
+                    self.server.receive(self.number, payload),
                     Ok(Received::Done)
                 );
             }
@@ -91,7 +89,7 @@ impl Scene {
                 let read = self.server.read(self.stream, &mut bytes);
                 assert_eq!(read, Ok(Read::Bytes(BYTES.len())));
             }
-            Act::Lose => assert_eq!(self.client.declare_lost(self.made.number), Ok(())),
+            Act::Lose => assert_eq!(self.client.declare_lost(self.number), Ok(())),
             Act::AckLate => assert_eq!(self.client.receive(1, &self.ack), Ok(Received::Done)),
         }
     }

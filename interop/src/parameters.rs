@@ -202,10 +202,7 @@ mod tests {
             idle: Duration::from_secs(30),
             initial_source: ConnectionId::new(&[1, 2, 3]),
             original_destination: ConnectionId::new(&[]),
-            limits: PeerLimits {
-                max_data: 1 << 61,
-                ..PeerLimits::default()
-            },
+            limits: PeerLimits::default().max_data(1 << 61),
             ..Parameters::default()
         };
         let read = Parameters::read(&told.write(), Role::Server).unwrap();

@@ -358,6 +358,7 @@ fn frame_name(frame: &Frame<'_>) -> &'static str {
         Frame::PathResponse { .. } => "path_response",
         Frame::ConnectionClose { .. } | Frame::ApplicationClose { .. } => "connection_close",
         Frame::HandshakeDone => "handshake_done",
+        _ => "unknown",
     }
 }
 

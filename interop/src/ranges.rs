@@ -1,53 +1,52 @@
 //! The packet numbers that came in a space of the handshake.
 
-use std::ops::Range;
-
 /// How many ranges are kept, and an ACK names at most.
 const MOST: usize = 32;
 
-/// Numbers as ranges, the highest first.
+/// Numbers as ranges, each by its lowest and its highest, the highest first.
 #[derive(Clone, Debug, Default)]
 pub struct Numbers {
-    ranges: Vec<Range<u64>>,
+    ranges: Vec<(u64, u64)>,
     /// Numbers below were let go, and count as known.
     floor: u64,
 }
 
 impl Numbers {
-    pub fn as_slice(&self) -> &[Range<u64>] {
+    pub fn as_slice(&self) -> &[(u64, u64)] {
         &self.ranges
     }
 
     pub fn end(&self) -> u64 {
-        self.ranges.first().map_or(0, |range| range.end)
+        self.ranges.first().map_or(0, |(_, highest)| highest + 1)
     }
 
     pub fn has(&self, number: u64) -> bool {
-        number < self.floor || self.ranges.iter().any(|range| range.contains(&number))
+        let within = |&(lowest, highest): &(u64, u64)| (lowest..=highest).contains(&number);
+        number < self.floor || self.ranges.iter().any(within)
     }
 
     pub fn insert(&mut self, number: u64) {
         if self.has(number) {
             return;
         }
-        let place = self.ranges.partition_point(|range| range.start > number);
-        self.ranges.insert(place, number..number + 1);
+        let place = self.ranges.partition_point(|(lowest, _)| *lowest > number);
+        self.ranges.insert(place, (number, number));
         self.join(place);
         if place > 0 {
             self.join(place - 1);
         }
         if self.ranges.len() > MOST
-            && let Some(lowest) = self.ranges.pop()
+            && let Some((_, highest)) = self.ranges.pop()
         {
-            self.floor = lowest.end;
+            self.floor = highest + 1;
         }
     }
 
     // The range at a place and the one below it are one where they touch.
     fn join(&mut self, place: usize) {
-        if place + 1 < self.ranges.len() && self.ranges[place + 1].end == self.ranges[place].start {
-            let below = self.ranges.remove(place + 1);
-            self.ranges[place].start = below.start;
+        if place + 1 < self.ranges.len() && self.ranges[place + 1].1 + 1 == self.ranges[place].0 {
+            let (lowest, _) = self.ranges.remove(place + 1);
+            self.ranges[place].0 = lowest;
         }
     }
 }
@@ -62,7 +61,7 @@ mod tests {
         for number in [3, 1, 7, 2, 8, 2] {
             numbers.insert(number);
         }
-        assert_eq!(numbers.as_slice(), [7..9, 1..4]);
+        assert_eq!(numbers.as_slice(), [(7, 8), (1, 3)]);
         assert_eq!(numbers.end(), 9);
         assert!(numbers.has(2) && !numbers.has(4));
     }

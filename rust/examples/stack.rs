@@ -9,7 +9,6 @@ use gotsavena::{
 };
 use std::collections::{BTreeMap, BTreeSet};
 use std::error::Error;
-use std::ops::Range;
 
 /// How many later packets are acknowledged before one counts as lost (RFC 9002, section 6.1.1).
 const REORDERED: u64 = 3;
@@ -46,7 +45,7 @@ impl Stack {
         out[..8].copy_from_slice(&self.next.to_be_bytes());
         let mut len = 8;
         if self.owes_ack {
-            len += put_ack(&runs(&self.came), &mut out[len..])?.1;
+            len += put_ack(&runs(&self.came), 0, &mut out[len..])?.1;
         }
         if let Some(filled) = self.end.fill(&mut out[len..], &Fill::all())? {
             len += filled.len;
@@ -105,14 +104,14 @@ impl Stack {
     }
 }
 
-/// The runs of some numbers, the highest first.
-fn runs(numbers: &BTreeSet<u64>) -> Vec<Range<u64>> {
-    let mut runs: Vec<Range<u64>> = Vec::new();
+/// The runs of some numbers, each by its lowest and its highest, the highest first.
+fn runs(numbers: &BTreeSet<u64>) -> Vec<(u64, u64)> {
+    let mut runs: Vec<(u64, u64)> = Vec::new();
     for &number in numbers.iter().rev() {
         let more = runs.len() < RANGES;
         match runs.last_mut() {
-            Some(run) if run.start == number + 1 => run.start = number,
-            _ if more => runs.push(number..number + 1),
+            Some((lowest, _)) if *lowest == number + 1 => *lowest = number,
+            _ if more => runs.push((number, number)),
             _ => break,
         }
     }

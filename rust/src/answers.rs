@@ -8,6 +8,7 @@ use core::fmt;
 ///
 /// [`Endpoint::close_payload`](crate::Endpoint::close_payload) writes it as the CONNECTION_CLOSE for the peer.
 #[derive(Clone, Copy, Debug, PartialEq, Eq)]
+#[non_exhaustive]
 pub struct Closing {
     /// The transport error code of section 20.1.
     pub code: u64,
@@ -19,9 +20,10 @@ pub struct Closing {
 
 /// A side of the connection, seen from this endpoint.
 #[derive(Clone, Copy, Debug, PartialEq, Eq)]
-#[allow(missing_docs)]
 pub enum Closer {
+    /// This endpoint.
     Us,
+    /// The other one.
     Peer,
 }
 
@@ -36,8 +38,9 @@ pub enum CloseKind {
 
 /// A close that [`Endpoint::note_closed`](crate::Endpoint::note_closed) noted: one that never came through this endpoint.
 #[derive(Clone, Copy, Debug, PartialEq, Eq)]
-#[allow(missing_docs)]
+#[non_exhaustive]
 pub struct NotedClose {
+    /// The side that closed.
     pub by: Closer,
     /// The kind, without which the code can't be read.
     pub kind: CloseKind,
@@ -47,6 +50,7 @@ pub struct NotedClose {
 
 /// What came of a payload that didn't make this endpoint close.
 #[derive(Clone, Copy, Debug, PartialEq, Eq)]
+#[non_exhaustive]
 #[must_use = "it says whether the payload took effect, and whether the peer closed"]
 pub enum Received {
     /// All frames took effect, and the packet number is kept. A stack that writes ACKs itself may name only these numbers: what it
@@ -69,9 +73,10 @@ pub enum Received {
 
 /// What came of a single frame ([`Endpoint::take_frame`](crate::Endpoint::take_frame)).
 #[derive(Clone, Copy, Debug, PartialEq, Eq)]
+#[non_exhaustive]
 #[must_use = "it says whether the frame changed anything, and whether it is the stack's"]
-#[allow(missing_docs)]
 pub enum Taken {
+    /// It took effect, and changed something.
     Took,
     /// It changed nothing: its content came before, or it raises no limit. Count these against a peer that only makes work.
     ///
@@ -108,7 +113,7 @@ pub enum Read {
 
 /// What [`Endpoint::peek`](crate::Endpoint::peek) shows. Nothing counts as read by it.
 #[derive(Clone, Copy, Debug, PartialEq, Eq)]
-#[allow(missing_docs)]
+#[non_exhaustive]
 pub enum Peek<'a> {
     /// The bytes that are next, in order: those of the first slice, which has at least one, and then those of the second. There are two
     /// because the receive buffer is a ring; the second is empty unless the bytes go around its edge.
@@ -117,6 +122,7 @@ pub enum Peek<'a> {
     End,
     /// The peer reset the stream, with this code.
     Reset(u64),
+    /// Nothing can be read now. [`Event::Readable`](crate::Event::Readable) says when to try again.
     Wait,
 }
 
@@ -133,10 +139,11 @@ pub struct Consumed {
 
 /// A packet that was made.
 #[derive(Clone, Copy, Debug, PartialEq, Eq)]
-#[allow(missing_docs)]
+#[non_exhaustive]
 pub struct Made {
     /// Its packet number, below 2^62. Send the packet under this one: ACKs will name it (RFC 9000, section 12.3).
     pub number: u64,
+    /// How many bytes of the slice are its payload.
     pub len: usize,
     /// Whether it asks for an ACK: it holds a frame other than ACK (RFC 9000, section 13.2.1). One that doesn't isn't in flight for
     /// congestion control (RFC 9002, section 2), and has nothing to retransmit, so it can't be declared lost.
@@ -203,14 +210,17 @@ impl Token {
 /// How much memory an endpoint uses for the bytes of its streams, in bytes: those that wait to be read, and those that wait to be
 /// acknowledged. Apart, since a peer makes the first grow, and the application the second.
 #[derive(Clone, Copy, Debug, PartialEq, Eq)]
-#[allow(missing_docs)]
+#[non_exhaustive]
 pub struct Held {
+    /// That of the receive buffers, for bytes that wait to be read.
     pub receiving: u64,
+    /// That of the sending buffers, for bytes that wait to be acknowledged.
     pub sending: u64,
 }
 
 /// The states of a stream's halves at this endpoint.
 #[derive(Clone, Copy, Debug, PartialEq, Eq)]
+#[non_exhaustive]
 pub struct StreamReport {
     /// The sending half; `None` for a unidirectional stream of the peer.
     pub send: Option<SendReport>,
@@ -220,27 +230,32 @@ pub struct StreamReport {
 
 /// A sending half (RFC 9000, section 3.1).
 #[derive(Clone, Copy, Debug, PartialEq, Eq)]
-#[allow(missing_docs)]
+#[non_exhaustive]
 pub struct SendReport {
     /// Its state. `DataRecvd` is what a sender waits for: the peer has everything.
     pub state: SendState,
+    /// How many bytes were accepted for sending.
     pub written: u64,
     /// The final size in bytes, once it is declared by a FIN or a reset.
     pub final_size: Option<u64>,
     /// The code of its reset, if there was one: the application's, or that of the peer's STOP_SENDING (section 3.5).
     pub reset_code: Option<u64>,
+    /// How many bytes of the stream the peer permits so far (section 4.1).
     pub limit: u64,
 }
 
 /// A receiving half (RFC 9000, section 3.2).
 #[derive(Clone, Copy, Debug, PartialEq, Eq)]
-#[allow(missing_docs)]
+#[non_exhaustive]
 pub struct RecvReport {
+    /// Its state.
     pub state: RecvState,
+    /// How many bytes were read.
     pub read_count: u64,
     /// The final size if it is known, else one more than the largest offset received, or 0. Flow control counts this, not the bytes that
     /// arrived.
     pub highest: u64,
+    /// How many bytes of the stream the peer may send so far (section 4.1).
     pub limit: u64,
     /// The final size in bytes, once it is known.
     pub final_size: Option<u64>,
@@ -254,13 +269,18 @@ pub struct RecvReport {
 /// The states of a sending half, with the standard's names (RFC 9000, section 3.1). `DataSent` has sent its FIN, and may still have to send
 /// lost bytes again; in `DataRecvd` everything was acknowledged. `ResetSent` also follows the peer's STOP_SENDING.
 #[derive(Clone, Copy, Debug, PartialEq, Eq)]
-#[allow(missing_docs)]
 pub enum SendState {
+    /// The application may write, and nothing was sent yet.
     Ready,
+    /// Something was sent, and the stream isn't finished.
     Send,
+    /// All bytes were sent, and the FIN.
     DataSent,
+    /// All of that was acknowledged: the half is over.
     DataRecvd,
+    /// The half was reset.
     ResetSent,
+    /// The reset was acknowledged: the half is over.
     ResetRecvd,
 }
 
@@ -268,13 +288,18 @@ pub enum SendState {
 /// is, but the end wasn't read. Only in `DataRead` and `ResetRead`, when `read` returned the end or the reset, the peer may open another
 /// stream.
 #[derive(Clone, Copy, Debug, PartialEq, Eq)]
-#[allow(missing_docs)]
 pub enum RecvState {
+    /// Where the stream ends isn't known yet.
     Recv,
+    /// The FIN came, and bytes before it are missing.
     SizeKnown,
+    /// All bytes came.
     DataRecvd,
+    /// The end was read: the half is over.
     DataRead,
+    /// The peer reset it.
     ResetRecvd,
+    /// The reset was read: the half is over.
     ResetRead,
 }
 
@@ -301,6 +326,12 @@ impl Closing {
 }
 
 impl NotedClose {
+    /// The close of a side: its kind, and its error code.
+    #[must_use]
+    pub const fn new(by: Closer, kind: CloseKind, code: u64) -> NotedClose {
+        NotedClose { by, kind, code }
+    }
+
     pub(crate) fn of(close: calls::NotedClose) -> NotedClose {
         NotedClose {
             by: match close.by {

@@ -26,12 +26,12 @@ pub enum RaiseFault {
 /// Why a setting wasn't changed. Nothing changed.
 #[derive(Clone, Copy, Debug, PartialEq, Eq)]
 #[non_exhaustive]
-#[allow(missing_docs)]
 pub enum SetFault {
     /// The connection is closed, so limits mean nothing any more.
     Closed,
     /// The value is out of the range that [`Endpoint::with_tuning`](crate::Endpoint::with_tuning) has for it.
     OutOfRange,
+    /// The stream was never opened.
     NoSuchStream,
     /// The stream has no such half here: it is unidirectional.
     WrongDirection,
@@ -40,21 +40,21 @@ pub enum SetFault {
 /// Why no stream was opened.
 #[derive(Clone, Copy, Debug, PartialEq, Eq)]
 #[non_exhaustive]
-#[allow(missing_docs)]
 pub enum OpenFault {
     /// So many streams were opened, ended ones too, which is the peer's count so far (RFC 9000, section 4.6). A STREAMS_BLOCKED tells it to
     /// the peer. It permits more as streams end; [`Event::Available`](crate::Event::Available) says when.
     Blocked(u64),
     /// The connection is closed, and all streams end with it.
     Closed,
+    /// Memory was refused. The same call may succeed later.
     NoMemory,
 }
 
 /// Why a stream can't be used so. Nothing changed.
 #[derive(Clone, Copy, Debug, PartialEq, Eq)]
 #[non_exhaustive]
-#[allow(missing_docs)]
 pub enum UseFault {
+    /// The stream was never opened.
     NoSuchStream,
     /// The stream has no such half here: it is unidirectional.
     WrongDirection,
@@ -152,6 +152,11 @@ pub enum PutFault {
     /// length, or ranges that aren't those of an ACK (RFC 9000, sections 16 and 19).
     Invalid,
 }
+
+/// Why a number is no stream's: it is 2^62 or more, which no frame can carry (RFC 9000, section 16).
+#[derive(Clone, Copy, Debug, PartialEq, Eq)]
+#[non_exhaustive]
+pub struct StreamIdFault;
 
 impl SetupFault {
     /// The code to refuse the connection with, if the peer is at fault (RFC 9000, section 20.1). The other fault is in this side's
@@ -381,6 +386,13 @@ impl fmt::Display for PutFault {
     }
 }
 
+impl fmt::Display for StreamIdFault {
+    fn fmt(&self, f: &mut fmt::Formatter<'_>) -> fmt::Result {
+        f.write_str("the number of a stream lies above 2^62-1")
+    }
+}
+
+impl Error for StreamIdFault {}
 impl Error for SetupFault {}
 impl Error for OpenFault {}
 impl Error for SetFault {}

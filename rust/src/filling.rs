@@ -79,6 +79,7 @@ impl Fill {
 
 /// What went into a slice.
 #[derive(Clone, Copy, Debug, PartialEq, Eq)]
+#[non_exhaustive]
 #[must_use = "its token is needed once the packet is acknowledged or lost"]
 pub struct Filled {
     /// Names it when the packet is acknowledged or lost.

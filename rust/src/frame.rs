@@ -6,20 +6,21 @@ use crate::proved::qs_wire as wire;
 use core::error::Error;
 use core::fmt;
 use core::iter::FusedIterator;
-use core::ops::Range;
 
 mod between;
 
 /// A frame, in the order and with the fields of RFC 9000, sections 19.1 to 19.20. Two types of one layout are one frame: MAX_STREAMS of
 /// either direction, say. Its bytes are lent by the payload, so reading copies nothing.
 #[derive(Clone, Copy, Debug, PartialEq, Eq)]
-#[allow(missing_docs)]
+#[non_exhaustive]
 pub enum Frame<'a> {
     /// Section 19.1. Each byte is a frame of its own, so a padded payload has many.
     Padding,
+    /// Section 19.2: it asks for an ACK.
     Ping,
     /// Section 19.3, of both types: that with ECN counts and that without.
     Ack {
+        /// The largest packet number that it names.
         largest: u64,
         /// The delay as in the payload: in microseconds divided by two to the power of `ack_delay_exponent` (section 18.2), which only the
         /// transport knows.
@@ -27,111 +28,150 @@ pub enum Frame<'a> {
         /// The length of the first range, and then of each next one the gap before it and its length, as the payload spells them: an ACK
         /// may have many. [`AckRanges`] reads them.
         ranges: &'a [u8],
+        /// The counts of congestion marks, if the frame has them.
         ecn: Option<EcnCounts>,
     },
+    /// Section 19.4: the sender aborts the stream.
     ResetStream {
+        /// The stream that is reset.
         stream: StreamId,
+        /// The application's error code.
         code: u64,
         /// How many bytes the stream has for flow control, sent or not.
         final_size: u64,
     },
+    /// Section 19.5: the receiver wants no more of the stream.
     StopSending {
+        /// The stream that is to stop.
         stream: StreamId,
+        /// The application's error code.
         code: u64,
     },
+    /// Section 19.6: bytes of the handshake.
     Crypto {
+        /// Where the bytes stand in the handshake's own stream, from 0.
         offset: u64,
+        /// The bytes.
         bytes: &'a [u8],
     },
+    /// Section 19.7: a token for a later connection to this server.
     NewToken {
+        /// The token, which means something to the server alone.
         bytes: &'a [u8],
     },
     /// Section 19.8, of all eight types.
     Stream {
+        /// The stream whose bytes these are.
         stream: StreamId,
+        /// Where the bytes stand in the stream, from 0.
         offset: u64,
         /// Whether the stream ends with these bytes.
         fin: bool,
+        /// The bytes.
         bytes: &'a [u8],
     },
+    /// Section 19.9: the connection's limit.
     MaxData {
         /// How many bytes the receiver of this frame may send on all streams together.
         maximum: u64,
     },
+    /// Section 19.10: a stream's limit.
     MaxStreamData {
+        /// The stream that it limits.
         stream: StreamId,
         /// How many bytes the receiver of this frame may send on it.
         maximum: u64,
     },
+    /// Section 19.11: the count of streams of a direction.
     MaxStreams {
+        /// The direction of the streams that it counts.
         dir: Dir,
         /// How many of them the receiver of this frame may open, at most 2^60.
         count: u64,
     },
+    /// Section 19.12: the connection's limit blocks the sender of this frame.
     DataBlocked {
         /// The limit that blocks the sender.
         limit: u64,
     },
+    /// Section 19.13: a stream's limit blocks the sender of this frame.
     StreamDataBlocked {
+        /// The stream that it limits.
         stream: StreamId,
         /// The limit that blocks the sender.
         limit: u64,
     },
+    /// Section 19.14: the count of streams blocks the sender of this frame.
     StreamsBlocked {
+        /// The direction of the streams that it counts.
         dir: Dir,
         /// The count that blocks the sender, at most 2^60.
         count: u64,
     },
+    /// Section 19.15: a connection ID that its receiver may send to.
     NewConnectionId {
+        /// The number of this connection ID.
         sequence: u64,
         /// Connection IDs of lower numbers are to be retired.
         retire: u64,
-        /// 1 to 20 bytes.
+        /// The connection ID: 1 to 20 bytes.
         identifier: &'a [u8],
-        /// 16 bytes.
+        /// Its stateless reset token (section 10.3): 16 bytes.
         reset_token: &'a [u8],
     },
+    /// Section 19.16: a connection ID that its sender no longer sends to.
     RetireConnectionId {
+        /// The number of the connection ID.
         sequence: u64,
     },
-    /// Section 19.17, with 8 bytes.
+    /// Section 19.17.
     PathChallenge {
+        /// What the answer repeats: 8 bytes.
         bytes: &'a [u8],
     },
-    /// Section 19.18, with 8 bytes.
+    /// Section 19.18.
     PathResponse {
+        /// What was asked with: 8 bytes.
         bytes: &'a [u8],
     },
     /// Section 19.19, type 0x1c: the transport closes.
     ConnectionClose {
+        /// The transport's error code (section 20.1).
         code: u64,
         /// The type of the frame that offended, 0 if none did.
         frame_type: u64,
+        /// Why, in UTF-8, for a log.
         reason: &'a [u8],
     },
     /// Section 19.19, type 0x1d: the application closes. Its codes are numbered apart.
     ApplicationClose {
+        /// The application's error code.
         code: u64,
+        /// Why, in UTF-8, for a log.
         reason: &'a [u8],
     },
+    /// Section 19.20: the server confirms the handshake.
     HandshakeDone,
 }
 
 /// How many packets came with each mark of congestion (RFC 9000, section 19.3.2): for the transport's congestion control.
 #[derive(Clone, Copy, Debug, PartialEq, Eq)]
-#[allow(missing_docs)]
 pub struct EcnCounts {
+    /// How many came marked ECT(0).
     pub ect0: u64,
+    /// How many came marked ECT(1).
     pub ect1: u64,
+    /// How many came marked ECN-CE: a router was congested.
     pub ce: u64,
 }
 
 /// A frame and its place in a payload.
 #[derive(Clone, Copy, Debug, PartialEq, Eq)]
-#[allow(missing_docs)]
+#[non_exhaustive]
 pub struct Placed<'a> {
     /// Where its first byte stands, counted in bytes from 0.
     pub place: usize,
+    /// The frame.
     pub frame: Frame<'a>,
     /// The number of its type as it was read. A STREAM has eight, which `frame` doesn't tell apart, and a close names the one read.
     pub frame_type: u64,
@@ -139,6 +179,7 @@ pub struct Placed<'a> {
 
 /// What is wrong with a payload, or with a frame in it.
 #[derive(Clone, Copy, Debug, PartialEq, Eq)]
+#[non_exhaustive]
 pub enum FaultKind {
     /// The payload has no frame (RFC 9000, section 12.4).
     Empty,
@@ -160,8 +201,9 @@ pub enum FaultKind {
 
 /// The first fault of a payload. It stands in place of a frame, and nothing behind it is read.
 #[derive(Clone, Copy, Debug, PartialEq, Eq)]
-#[allow(missing_docs)]
+#[non_exhaustive]
 pub struct WireFault {
+    /// What is wrong.
     pub kind: FaultKind,
     /// Where the frame's first byte stands, counted in bytes from 0.
     pub place: usize,
@@ -346,40 +388,54 @@ pub fn put(frame: &Frame<'_>, out: &mut [u8]) -> Result<usize, PutFault> {
     wire::put(&frame.inner(), out).map_err(|_full| PutFault::Full)
 }
 
-/// Writes an ACK without delay and ECN counts at the slice's front, of as many ranges as fit, and returns how many and the length in bytes
-/// (RFC 9000, section 19.3.1). The ranges are half-open, the highest first, so that those left out are the oldest.
+/// Writes an ACK without ECN counts at the slice's front, of as many ranges as fit, and returns how many and the length in bytes (RFC 9000,
+/// section 19.3). The ranges are as [`AckRanges`] yields them: the lowest and the highest packet number of each, the highest range first, so
+/// that those left out are the oldest. The delay is in microseconds divided by two to the power of the `ack_delay_exponent` that the peer
+/// was given (section 18.2).
 ///
 /// ```
-/// use gotsavena::{PutFault, put_ack};
+/// use gotsavena::{AckRanges, Frame, PutFault, frames, put_ack};
 ///
 /// let mut out = [0; 16];
-/// assert_eq!(put_ack(&[8..10, 4..5], &mut out), Ok((2, 7)));
-/// assert_eq!(out[..7], [0x02, 0x09, 0x00, 0x01, 0x01, 0x02, 0x00]);
+/// assert_eq!(put_ack(&[(8, 9), (4, 4)], 25, &mut out), Ok((2, 7)));
+/// // Its type, the largest, the delay, one more range; one packet below 9, a gap of 7 to 5, none below 4.
+/// assert_eq!(out[..7], [0x02, 0x09, 0x19, 0x01, 0x01, 0x02, 0x00]);
+/// let Frame::Ack { largest, delay, ranges, .. } = frames(&out[..7]).next().unwrap()?.frame else {
+///     panic!("no ACK");
+/// };
+/// assert_eq!((largest, delay), (9, 25));
+/// assert!(AckRanges::new(largest, ranges).unwrap().eq([(8, 9), (4, 4)]));
 /// // Ranges that touch are one.
-/// assert_eq!(put_ack(&[8..10, 4..8], &mut out), Err(PutFault::Invalid));
+/// assert_eq!(put_ack(&[(8, 9), (4, 7)], 0, &mut out), Err(PutFault::Invalid));
+/// # Ok::<(), gotsavena::WireFault>(())
 /// ```
 ///
 /// # Errors
 ///
-/// `Invalid` if there are no ranges or more than 32, one is empty or goes above 2^62-1, or two touch: they would be one; else `Full` if not
-/// even the first fits. Then nothing is written.
-pub fn put_ack(ranges: &[Range<u64>], out: &mut [u8]) -> Result<(usize, usize), PutFault> {
+/// `Invalid` if there are no ranges or more than 32, one ends below its beginning or above 2^62-1, two touch, since they would be one, or
+/// the delay is 2^62 or more; else `Full` if not even the first fits. Then nothing is written.
+pub fn put_ack(
+    ranges: &[(u64, u64)],
+    delay: u64,
+    out: &mut [u8],
+) -> Result<(usize, usize), PutFault> {
     let mut pairs = [(0, 0); MAX_RANGES];
     let Some(pairs) = pairs.get_mut(..ranges.len()) else {
         return Err(PutFault::Invalid);
     };
+    // Half-open, as the proved writer has them.
     let mut above = MAX_VARINT + 2;
-    for (pair, range) in pairs.iter_mut().zip(ranges) {
-        if range.is_empty() || range.end >= above {
+    for (pair, &(lowest, highest)) in pairs.iter_mut().zip(ranges) {
+        if lowest > highest || highest.saturating_add(1) >= above {
             return Err(PutFault::Invalid);
         }
-        above = range.start;
-        *pair = (range.start, range.end);
+        *pair = (lowest, highest + 1);
+        above = lowest;
     }
-    if pairs.is_empty() {
+    if pairs.is_empty() || !fits(delay) {
         return Err(PutFault::Invalid);
     }
-    wire::put_ack(pairs, out).map_err(|_full| PutFault::Full)
+    wire::put_delayed_ack(pairs, delay, out).map_err(|_full| PutFault::Full)
 }
 
 /// The stream of the last STREAM frame in a payload, up to its end or its first fault; `None` if there is none. For round-robin, go on

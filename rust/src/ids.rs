@@ -1,5 +1,6 @@
 //! Endpoints, directions and the numbers of streams.
 
+use crate::faults::StreamIdFault;
 use crate::proved::qs_wire as wire;
 use core::cmp::Ordering;
 use core::fmt;
@@ -34,6 +35,8 @@ pub enum Dir {
 /// assert_eq!(stream.value(), 11);
 /// assert_eq!(StreamId::new(11), Some(stream));
 /// assert_eq!(StreamId::new(1 << 62), None);
+/// assert_eq!(stream.next(), StreamId::new(12));
+/// assert_eq!(StreamId::try_from(11), Ok(stream));
 /// ```
 #[derive(Clone, Copy, PartialEq, Eq)]
 pub struct StreamId(wire::StreamId);
@@ -73,6 +76,13 @@ impl StreamId {
     #[must_use]
     pub fn index(self) -> u64 {
         self.0.index()
+    }
+
+    /// The stream of the next number, of whichever type, to go on from behind this one: in a search
+    /// ([`next_readable`](crate::Endpoint::next_readable)) or by turns. `None` if this is the last.
+    #[must_use]
+    pub fn next(self) -> Option<StreamId> {
+        StreamId::new(self.value() + 1)
     }
 
     pub(crate) fn of(stream: wire::StreamId) -> StreamId {
@@ -117,6 +127,14 @@ impl PartialOrd for StreamId {
 impl From<StreamId> for u64 {
     fn from(stream: StreamId) -> u64 {
         stream.value()
+    }
+}
+
+impl TryFrom<u64> for StreamId {
+    type Error = StreamIdFault;
+
+    fn try_from(value: u64) -> Result<StreamId, StreamIdFault> {
+        StreamId::new(value).ok_or(StreamIdFault)
     }
 }
 

@@ -42,7 +42,7 @@
 //! | [`Frame`], [`Frames`], [`Placed`], [`AckRanges`], [`EcnCounts`], [`WireFault`], [`FaultKind`] | the frames of a payload, which `frames`, `put` and `put_ack` read and write without an endpoint |
 //! | [`Closing`], [`NotedClose`], [`Closer`], [`CloseKind`] | why a connection is closed |
 //! | [`Held`] | how much memory an endpoint takes for bytes of streams |
-//! | [`SetupFault`], [`OpenFault`], [`UseFault`], [`MakeFault`], [`ReceiveFault`], [`LostFault`], [`TakeFault`], [`TokenFault`], [`EventFault`], [`SetFault`], [`RaiseFault`], [`PutFault`] | why a call was refused: each is an `Error`, and takes no memory |
+//! | [`SetupFault`], [`OpenFault`], [`UseFault`], [`MakeFault`], [`ReceiveFault`], [`LostFault`], [`TakeFault`], [`TokenFault`], [`EventFault`], [`SetFault`], [`RaiseFault`], [`PutFault`], [`StreamIdFault`] | why a call was refused: each is an `Error`, and takes no memory |
 //!
 //! An [`Endpoint`] is one side of a connection. [`Endpoint::receive`] processes a payload, [`Endpoint::make_packet`] makes the next one,
 //! [`Endpoint::declare_lost`] says that one was lost. The application [opens](Endpoint::open) and [accepts](Endpoint::accept) streams,
@@ -128,7 +128,7 @@ pub use endpoint::{Endpoint, MAX_PAYLOAD, MAX_ROOM, MIN_ROOM};
 pub use event::Event;
 pub use faults::{
     EventFault, LostFault, MakeFault, OpenFault, PutFault, RaiseFault, ReceiveFault, SetFault,
-    SetupFault, TakeFault, TokenFault, UseFault,
+    SetupFault, StreamIdFault, TakeFault, TokenFault, UseFault,
 };
 pub use filling::{Fill, Filled, MIN_FILL};
 pub use frame::{

@@ -19,6 +19,7 @@ use crate::proved::qs_calls as calls;
 ///
 /// [`Endpoint::new`](crate::Endpoint::new) checks the ranges, all at once, so that the order of these calls doesn't matter.
 #[derive(Clone, Copy, Debug, PartialEq, Eq)]
+#[non_exhaustive]
 pub struct Settings(calls::Settings);
 
 /// The limits that an endpoint begins with, as its peer grants them: the transport parameters of RFC 9000, section 18.2.
@@ -28,7 +29,20 @@ pub struct Settings(calls::Settings);
 ///
 /// A client knows the peer's limits only after the handshake, so make its endpoint then. With 0-RTT make it with the remembered limits, and
 /// [raise](crate::Endpoint::raise_limits) them later: those of a server that accepts 0-RTT are no lower (section 7.4.1).
+///
+/// The default grants nothing, as a handshake without these parameters does. Each call changes one limit:
+///
+/// ```
+/// use gotsavena::PeerLimits;
+///
+/// let limits = PeerLimits::default()
+///     .max_data(1 << 20)
+///     .stream_data(1 << 18)
+///     .streams_bidi(100);
+/// assert_eq!((limits.bidi_remote, limits.streams_uni), (1 << 18, 0));
+/// ```
 #[derive(Clone, Copy, Debug, Default, PartialEq, Eq)]
+#[non_exhaustive]
 pub struct PeerLimits {
     /// `initial_max_data`: bytes on all streams together, below 2^62.
     pub max_data: u64,
@@ -167,6 +181,54 @@ impl Settings {
 }
 
 impl PeerLimits {
+    /// Sets [`max_data`](field@PeerLimits::max_data).
+    #[must_use]
+    pub fn max_data(mut self, bytes: u64) -> PeerLimits {
+        self.max_data = bytes;
+        self
+    }
+
+    /// Sets [`bidi_local`](field@PeerLimits::bidi_local).
+    #[must_use]
+    pub fn bidi_local(mut self, bytes: u64) -> PeerLimits {
+        self.bidi_local = bytes;
+        self
+    }
+
+    /// Sets [`bidi_remote`](field@PeerLimits::bidi_remote).
+    #[must_use]
+    pub fn bidi_remote(mut self, bytes: u64) -> PeerLimits {
+        self.bidi_remote = bytes;
+        self
+    }
+
+    /// Sets [`uni`](field@PeerLimits::uni).
+    #[must_use]
+    pub fn uni(mut self, bytes: u64) -> PeerLimits {
+        self.uni = bytes;
+        self
+    }
+
+    /// The three limits on bytes of a stream at once.
+    #[must_use]
+    pub fn stream_data(self, bytes: u64) -> PeerLimits {
+        self.bidi_local(bytes).bidi_remote(bytes).uni(bytes)
+    }
+
+    /// Sets [`streams_bidi`](field@PeerLimits::streams_bidi).
+    #[must_use]
+    pub fn streams_bidi(mut self, streams: u64) -> PeerLimits {
+        self.streams_bidi = streams;
+        self
+    }
+
+    /// Sets [`streams_uni`](field@PeerLimits::streams_uni).
+    #[must_use]
+    pub fn streams_uni(mut self, streams: u64) -> PeerLimits {
+        self.streams_uni = streams;
+        self
+    }
+
     pub(crate) fn inner(&self) -> calls::PeerLimits {
         calls::PeerLimits {
             max_data: self.max_data,

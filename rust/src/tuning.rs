@@ -29,6 +29,7 @@ pub enum Share {
 /// assert_ne!(tuning, Tuning::default());
 /// ```
 #[derive(Clone, Copy, Debug, PartialEq, Eq)]
+#[non_exhaustive]
 pub struct Tuning(calls::Tuning);
 
 impl Default for Tuning {

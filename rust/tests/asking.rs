@@ -185,14 +185,13 @@ fn a_report_tells_the_owners_stop() {
 }
 
 fn limits(max_data: u64, stream: u64, streams: u64) -> PeerLimits {
-    PeerLimits {
-        max_data,
-        bidi_local: stream + 1,
-        bidi_remote: stream,
-        uni: stream + 2,
-        streams_bidi: streams,
-        streams_uni: streams + 1,
-    }
+    PeerLimits::default()
+        .max_data(max_data)
+        .bidi_local(stream + 1)
+        .bidi_remote(stream)
+        .uni(stream + 2)
+        .streams_bidi(streams)
+        .streams_uni(streams + 1)
 }
 
 // A client that remembered small limits takes in those of the handshake.

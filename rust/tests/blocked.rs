@@ -189,11 +189,7 @@ fn each_stands_for_itself() {
 fn a_closed_end_tells_none() {
     let mut end = asked();
     assert_eq!(end.take_frames(&said(1000, 400, 1)), Ok(Taken::Unchanged));
-    end.note_closed(NotedClose {
-        by: Closer::Peer,
-        kind: CloseKind::Application,
-        code: 7,
-    });
+    end.note_closed(NotedClose::new(Closer::Peer, CloseKind::Application, 7));
     assert_eq!(news(&mut end), []);
 }
 
@@ -411,11 +407,7 @@ fn what_was_said_waits_for_its_note() {
 #[test]
 fn a_closed_end_says_so_without_memory() {
     let mut end = looking();
-    let closed = NotedClose {
-        by: Closer::Peer,
-        kind: CloseKind::Transport,
-        code: 5,
-    };
+    let closed = NotedClose::new(Closer::Peer, CloseKind::Transport, 5);
     end.note_closed(closed);
     let (text, frame) = stands(STREAM);
     let (taken, was_asked) = refused(0, || end.receive(1, &text));

@@ -56,14 +56,13 @@ fn an_end(random: &mut Random) -> Option<Endpoint> {
         .send_buffer(usual(1500) as usize)
         .bidi_streams(usual(4), usual(9))
         .uni_streams(usual(4), usual(9));
-    let peer = PeerLimits {
-        max_data: usual(3000),
-        bidi_local: usual(900),
-        bidi_remote: usual(900),
-        uni: usual(900),
-        streams_bidi: usual(5),
-        streams_uni: usual(5),
-    };
+    let peer = PeerLimits::default()
+        .max_data(usual(3000))
+        .bidi_local(usual(900))
+        .bidi_remote(usual(900))
+        .uni(usual(900))
+        .streams_bidi(usual(5))
+        .streams_uni(usual(5));
     let role = if usual(0) % 2 == 0 {
         Role::Client
     } else {
@@ -128,14 +127,13 @@ fn call(end: &mut Endpoint, random: &mut Random, stream: StreamId) -> bool {
 }
 
 fn any_limits(random: &mut Random) -> PeerLimits {
-    PeerLimits {
-        max_data: number(random),
-        bidi_local: number(random),
-        bidi_remote: number(random),
-        uni: number(random),
-        streams_bidi: random.below(40),
-        streams_uni: number(random),
-    }
+    PeerLimits::default()
+        .max_data(number(random))
+        .bidi_local(number(random))
+        .bidi_remote(number(random))
+        .uni(number(random))
+        .streams_bidi(random.below(40))
+        .streams_uni(number(random))
 }
 
 fn any_frame<'a>(random: &mut Random, stream: StreamId) -> Frame<'a> {
@@ -218,14 +216,16 @@ fn any_frame_and_any_ranges_are_answered() {
             assert_eq!(read[0].map(|placed| placed.frame), Ok(frame));
         }
         let ranges: Vec<_> = (0..random.below(4))
-            .map(|_| number(&mut random)..number(&mut random))
+            .map(|_| (number(&mut random), number(&mut random)))
             .collect();
-        if let Ok((count, len)) = put_ack(&ranges, &mut out) {
+        let sent = number(&mut random);
+        if let Ok((count, len)) = put_ack(&ranges, sent, &mut out) {
             let Some(Ok(placed)) = frames(&out[..len]).next() else {
                 panic!("{ranges:?}");
             };
             let Frame::Ack {
                 largest,
+                delay,
                 ranges: found,
                 ..
             } = placed.frame
@@ -233,10 +233,8 @@ fn any_frame_and_any_ranges_are_answered() {
                 panic!("{ranges:?}");
             };
             let found = AckRanges::new(largest, found).expect("it was read");
-            let expected = ranges[..count]
-                .iter()
-                .map(|range| (range.start, range.end - 1));
-            assert!(found.eq(expected), "{ranges:?}");
+            assert!(found.eq(ranges[..count].iter().copied()), "{ranges:?}");
+            assert_eq!(delay, sent);
         }
         if let Some(ranges) = AckRanges::new(number(&mut random), &out) {
             assert!(ranges.count() <= out.len());

@@ -1,6 +1,6 @@
 //! What an end keeps of streams, in bytes that its calls took and haven't given back.
 
-use gotsavena::{Dir, Endpoint, Held, Read, Received, Role, Settings, StreamId};
+use gotsavena::{Dir, Endpoint, Read, Received, Role, Settings, StreamId};
 use std::alloc::{GlobalAlloc, Layout, System};
 use std::cell::Cell;
 
@@ -208,12 +208,10 @@ fn a_ring_shrinks_as_it_is_read() {
 /// a byte, and nothing once the stream was read to its end and all is acknowledged, or as the stream is reset.
 fn what_is_held_is_told() {
     const NOTED: u64 = 1024;
-    let nothing = Held {
-        receiving: 0,
-        sending: 0,
-    };
     let mut two = wide();
-    assert_eq!((two.client.held(), two.server.held()), (nothing, nothing));
+    let nothing = two.client.held();
+    assert_eq!((nothing.receiving, nothing.sending), (0, 0));
+    assert_eq!(two.server.held(), nothing);
     let stream = two.client.open(Dir::Bidi).expect("a stream");
     assert_eq!(two.client.write(stream, &[7]), Ok(1));
     two.settle();

@@ -261,11 +261,7 @@ mod io {
     };
     use std::io::{self, ErrorKind, Read, Write};
 
-    const CLOSE: NotedClose = NotedClose {
-        by: Closer::Us,
-        kind: CloseKind::Application,
-        code: 7,
-    };
+    const CLOSE: NotedClose = NotedClose::new(Closer::Us, CloseKind::Application, 7);
 
     // The kind of the error that a call answers, none of whose allocations but this one is refused, and how many it asked for.
     fn kind_of(refused: u64, call: impl FnOnce() -> io::Result<usize>) -> (ErrorKind, u64) {

@@ -30,6 +30,7 @@ fn look(server: &mut Endpoint, stream: StreamId, random: &mut Random, next: &mut
             assert_eq!(server.read(stream, &mut [0]), Ok(Read::Wait));
             return;
         }
+        other => panic!("{other:?}"),
     };
     for (place, &byte) in shown.iter().enumerate() {
         assert_eq!(byte, byte_at(*next + place));

@@ -388,11 +388,7 @@ fn told(settings: Settings, tuning: Tuning, limits: PeerLimits) -> [Endpoint; 2]
 #[test]
 fn at_rest_bytes_wait_where_an_end_was_told_less_than_its_peer_grants() {
     let settings = Settings::default();
-    let less = PeerLimits {
-        max_data: 0,
-        bidi_remote: 0,
-        ..settings.limits()
-    };
+    let less = settings.limits().max_data(0).bidi_remote(0);
     let [mut client, mut server] = told(settings, Tuning::default(), less);
     let stream = client.open(Dir::Bidi).expect("granted");
     assert_eq!(client.write(stream, b"hello"), Ok(5));

@@ -1,8 +1,5 @@
 //! The worked examples of the repository's README and documents, and what the front answers by itself.
 
-// Ranges are what an ACK is made of.
-#![allow(clippy::single_range_in_vec_init)]
-
 mod support;
 
 use gotsavena::{
@@ -155,15 +152,9 @@ fn settings_and_limits_have_ranges() {
         .send_buffer(1 << 30)
         .streams(1 << 17, 1 << 21);
     assert_eq!(made(widest, widest.limits()), Ok(()));
-    let peer = PeerLimits {
-        max_data: 1 << 62,
-        ..limits
-    };
+    let peer = limits.max_data(1 << 62);
     assert_eq!(made(settings, peer), out_of_range);
-    let peer = PeerLimits {
-        streams_uni: (1 << 60) + 1,
-        ..limits
-    };
+    let peer = limits.streams_uni((1 << 60) + 1);
     assert_eq!(made(settings, peer), Err(SetupFault::TooManyStreams));
     assert_eq!(SetupFault::TooManyStreams.code(), Some(8));
     assert_eq!(SetupFault::OutOfRange.code(), None);
@@ -377,45 +368,54 @@ fn what_is_put_reads_back() {
 
 #[test]
 fn acks_are_put_and_read() {
+    const MOST: u64 = (1 << 62) - 1;
     let mut out = [0; 64];
-    let ranges = [90..100, 50..60, 3..4];
-    let (count, len) = put_ack(&ranges, &mut out).expect("it fits");
+    let ranges = [(90, 99), (50, 59), (3, 3)];
+    let (count, len) = put_ack(&ranges, 64, &mut out).expect("it fits");
     let Some(Ok(placed)) = frames(&out[..len]).next() else {
         panic!("no frame");
     };
     let Frame::Ack {
-        largest, ranges, ..
+        largest,
+        delay,
+        ranges: found,
+        ecn,
     } = placed.frame
     else {
         panic!("no ACK");
     };
-    let found: Vec<_> = AckRanges::new(largest, ranges).expect("in range").collect();
-    assert_eq!((count, found), (3, vec![(90, 99), (50, 59), (3, 3)]));
+    let found: Vec<_> = AckRanges::new(largest, found).expect("in range").collect();
+    assert_eq!((count, found, delay, ecn), (3, ranges.to_vec(), 64, None));
     assert!(AckRanges::new(1 << 62, &[0]).is_none());
     // Fewer where fewer fit.
-    assert_eq!(put_ack(&[90..100, 50..60], &mut out[..7]), Ok((1, 6)));
-    assert_eq!(put_ack(&[90..100], &mut out[..5]), Err(PutFault::Full));
-    let many: Vec<_> = (0..33).rev().map(|n| 2 * n..2 * n + 1).collect();
-    assert!(put_ack(&many[1..], &mut [0; 128]).is_ok());
-    assert_eq!(put_ack(&many, &mut [0; 128]), Err(PutFault::Invalid));
+    let two = [(90, 99), (50, 59)];
+    assert_eq!(put_ack(&two, 0, &mut out[..7]), Ok((1, 6)));
+    assert_eq!(put_ack(&two[..1], 0, &mut out[..5]), Err(PutFault::Full));
+    // A delay of two bytes needs one byte more, and the longest one seven.
+    assert_eq!(put_ack(&two[..1], 64, &mut out[..6]), Err(PutFault::Full));
+    assert_eq!(put_ack(&two[..1], 64, &mut out[..7]), Ok((1, 7)));
+    assert_eq!(put_ack(&two[..1], MOST, &mut out), Ok((1, 13)));
+    assert_eq!(put_ack(&two, MOST + 1, &mut out), Err(PutFault::Invalid));
+    let many: Vec<_> = (0..33).rev().map(|n| (2 * n, 2 * n)).collect();
+    assert!(put_ack(&many[1..], 0, &mut [0; 128]).is_ok());
+    assert_eq!(put_ack(&many, 0, &mut [0; 128]), Err(PutFault::Invalid));
     for ranges in [
         &[][..],
-        &[5..5],
-        &[0..1 << 62, 5..6],
-        &[3..4, 5..6],
-        &[4..6, 3..4],
+        &[(5, 4)],
+        &[(0, MOST), (5, 5)],
+        &[(3, 3), (5, 5)],
+        &[(4, 5), (3, 3)],
+        &[(0, 5), (0, 0)],
+        &[(0, MOST + 1)],
+        &[(0, u64::MAX)],
     ] {
         assert_eq!(
-            put_ack(ranges, &mut [0; 128]),
+            put_ack(ranges, 0, &mut [0; 128]),
             Err(PutFault::Invalid),
             "{ranges:?}"
         );
     }
-    assert!(put_ack(&[0..1 << 62], &mut [0; 128]).is_ok());
-    assert_eq!(
-        put_ack(&[0..(1 << 62) + 1], &mut [0; 128]),
-        Err(PutFault::Invalid)
-    );
+    assert!(put_ack(&[(0, MOST)], 0, &mut [0; 128]).is_ok());
 }
 
 #[test]

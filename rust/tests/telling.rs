@@ -10,17 +10,9 @@ fn end() -> Endpoint {
     Endpoint::new(Role::Client, settings, settings.limits()).expect("within range")
 }
 
-const BY_PEER: NotedClose = NotedClose {
-    by: Closer::Peer,
-    kind: CloseKind::Application,
-    code: 0x100,
-};
+const BY_PEER: NotedClose = NotedClose::new(Closer::Peer, CloseKind::Application, 0x100);
 
-const BY_US: NotedClose = NotedClose {
-    by: Closer::Us,
-    kind: CloseKind::Transport,
-    code: u64::MAX,
-};
+const BY_US: NotedClose = NotedClose::new(Closer::Us, CloseKind::Transport, u64::MAX);
 
 #[test]
 fn the_end_is_closed() {
@@ -84,4 +76,22 @@ fn what_came_in_is_read_on_by_choice() {
     one.note_closed(BY_PEER);
     let mut read = [0; 8];
     assert_eq!(one.read(stream, &mut read), Ok(Read::Bytes(2)));
+}
+
+/// By a fault of the peer's, by its close, or by one that was noted (RFC 9000, section 10.2).
+#[test]
+fn each_close_closes() {
+    let mut faulty = end();
+    assert!(!faulty.is_closed());
+    assert!(faulty.receive(0, &[0x1f]).is_err());
+    let mut closed = end();
+    assert_eq!(
+        closed.receive(0, &[0x1c, 5, 0, 0]),
+        Ok(Received::PeerClosed(5))
+    );
+    let mut noted = end();
+    noted.note_closed(BY_US);
+    for end in [faulty, closed, noted] {
+        assert!(end.is_closed());
+    }
 }

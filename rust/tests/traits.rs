@@ -1,6 +1,9 @@
 //! Traits that users of iterators, sets and logs expect. Numbers are those of RFC 9000.
 
-use gotsavena::{AckRanges, Dir, Endpoint, Event, Fill, Frames, Role, Settings, StreamId, frames};
+use gotsavena::{
+    AckRanges, Dir, Endpoint, Event, Fill, Frames, PeerLimits, Read, RecvState, Role, SendState,
+    Settings, StreamId, Tuning, frames,
+};
 use std::collections::HashSet;
 
 // STREAM of stream 0 with "a", PING, STREAM of stream 4 with "b" (section 19.8).
@@ -106,4 +109,71 @@ fn roles_directions_and_events_have_words() {
     for (event, words) in told {
         assert_eq!(event.to_string(), words);
     }
+}
+
+#[test]
+fn a_number_of_a_stream_is_below_2_to_the_62() {
+    let last = StreamId::new((1 << 62) - 1).unwrap();
+    assert_eq!(StreamId::try_from((1 << 62) - 1), Ok(last));
+    for number in [1 << 62, u64::MAX] {
+        let fault = StreamId::try_from(number).unwrap_err();
+        assert!(fault.to_string().contains("2^62"));
+    }
+}
+
+#[test]
+fn streams_follow_one_another() {
+    let first = StreamId::new(0).unwrap();
+    let few: Vec<_> = std::iter::successors(Some(first), |stream| stream.next())
+        .map(StreamId::value)
+        .take(5)
+        .collect();
+    assert_eq!(few, [0, 1, 2, 3, 4]);
+    assert_eq!(StreamId::new((1 << 62) - 1).unwrap().next(), None);
+}
+
+/// A match of what stays needs no arm for what isn't known yet: that this compiles is the test.
+#[test]
+fn what_is_read_and_the_states_can_be_matched_whole() {
+    let read = |read| match read {
+        Read::Bytes(_) | Read::Wait => false,
+        Read::End | Read::Reset(_) => true,
+    };
+    let sent = |state| match state {
+        SendState::Ready | SendState::Send | SendState::DataSent | SendState::ResetSent => false,
+        SendState::DataRecvd | SendState::ResetRecvd => true,
+    };
+    let received = |state| match state {
+        RecvState::Recv | RecvState::SizeKnown | RecvState::DataRecvd | RecvState::ResetRecvd => {
+            false
+        }
+        RecvState::DataRead | RecvState::ResetRead => true,
+    };
+    assert!(read(Read::End) && sent(SendState::DataRecvd) && received(RecvState::DataRead));
+}
+
+#[test]
+fn what_an_application_builds_has_a_default_and_a_setter_for_each_field() {
+    let nothing = PeerLimits::default();
+    let limits = nothing
+        .max_data(1)
+        .bidi_local(2)
+        .bidi_remote(3)
+        .uni(4)
+        .streams_bidi(5)
+        .streams_uni(6);
+    // The parameters of RFC 9000, section 18.2, as an endpoint of these settings tells them.
+    let settings = Settings::default()
+        .conn_window(1)
+        .bidi_local_window(2)
+        .bidi_remote_window(3)
+        .uni_window(4)
+        .bidi_streams(5, 5)
+        .uni_streams(6, 6);
+    assert_eq!(settings.limits(), limits);
+    assert_eq!(
+        nothing.stream_data(7),
+        nothing.bidi_local(7).bidi_remote(7).uni(7)
+    );
+    assert_eq!(Tuning::default().epoch(0), Tuning::default());
 }

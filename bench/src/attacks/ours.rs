@@ -15,14 +15,13 @@ impl Target for Ours {
             .stream_windows(setup.window)
             .send_buffer(setup.send_buffer)
             .streams(setup.streams, 1 << 16);
-        let peer = PeerLimits {
-            max_data: setup.max_data,
-            bidi_local: setup.max_stream_data,
-            bidi_remote: setup.max_stream_data,
-            uni: setup.max_stream_data,
-            streams_bidi: 1 << 17,
-            streams_uni: 1 << 17,
-        };
+        let peer = PeerLimits::default()
+            .max_data(setup.max_data)
+            .bidi_local(setup.max_stream_data)
+            .bidi_remote(setup.max_stream_data)
+            .uni(setup.max_stream_data)
+            .streams_bidi(1 << 17)
+            .streams_uni(1 << 17);
         let tuning = Tuning::default().within_credit(setup.within_credit);
         let mut end =
             Endpoint::with_tuning(Role::Server, settings, tuning, peer).expect("they are in range");

@@ -114,9 +114,8 @@ impl<T: Target> Play<T> {
 
     /// Appends an ACK of these packets to the payload.
     pub fn put_ack(&mut self, first: u64, last: u64) {
-        let packets = first..last + 1;
-        let packets = std::slice::from_ref(&packets);
-        let (_, len) = gotsavena::put_ack(packets, &mut self.payload[self.len..]).expect("it fits");
+        let (_, len) = gotsavena::put_ack(&[(first, last)], 0, &mut self.payload[self.len..])
+            .expect("it fits");
         self.len += len;
     }
 

@@ -188,9 +188,7 @@ fn requests() -> f64 {
 fn request(stream: StreamId, source: &Source, made_next: u64, payload: &mut [u8]) -> usize {
     let mut len = 0;
     if made_next > 0 {
-        let all = 0..made_next;
-        let runs = std::slice::from_ref(&all);
-        (_, len) = gotsavena::put_ack(runs, payload).expect("it fits");
+        (_, len) = gotsavena::put_ack(&[(0, made_next - 1)], 0, payload).expect("it fits");
     }
     let asked = Frame::Stream {
         stream,

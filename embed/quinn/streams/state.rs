@@ -140,14 +140,13 @@ impl StreamsState {
     // Limits of the peer
 
     pub fn set_params(&mut self, params: &TransportParameters) {
-        let limits = PeerLimits {
-            max_data: params.initial_max_data.into(),
-            bidi_local: params.initial_max_stream_data_bidi_local.into(),
-            bidi_remote: params.initial_max_stream_data_bidi_remote.into(),
-            uni: params.initial_max_stream_data_uni.into(),
-            streams_bidi: params.initial_max_streams_bidi.into(),
-            streams_uni: params.initial_max_streams_uni.into(),
-        };
+        let limits = PeerLimits::default()
+            .max_data(params.initial_max_data.into())
+            .bidi_local(params.initial_max_stream_data_bidi_local.into())
+            .bidi_remote(params.initial_max_stream_data_bidi_remote.into())
+            .uni(params.initial_max_stream_data_uni.into())
+            .streams_bidi(params.initial_max_streams_bidi.into())
+            .streams_uni(params.initial_max_streams_uni.into());
         self.end.raise_limits(limits).expect("quinn read them, and the end is open");
         self.has_news = true;
         self.waiting.clear();
@@ -357,8 +356,8 @@ impl StreamsState {
 
     // The first is the greatest. Round-robin among equals: a stream that sent goes behind the others.
     pub(super) fn in_order(&self) -> Waiting {
-        let next = |from: u64| self.end.next_sendable(ours(StreamId(from)));
-        let all = iter::successors(next(0), |last| next(last.value() + 1));
+        let next = |from| self.end.next_sendable(from);
+        let all = iter::successors(next(ours(StreamId(0))), |last| next(last.next()?));
         let round = |stream| Reverse(u64::from(stream < self.turn));
         all.map(|stream| (self.priority(quinns(stream)), round(stream), Reverse(stream))).collect()
     }
@@ -378,11 +377,11 @@ impl StreamsState {
         }
         match self.end.fill(&mut self.space[..room], want) {
             Ok(Some(filled)) => {
-                let (frames, next) =
-                    (&self.space[..filled.len], |last: u64| ours(StreamId(last + 1)));
+                let frames = &self.space[..filled.len];
                 buf.extend_from_slice(frames);
                 self.carried.add(filled.token, frames);
-                self.turn = filled.last_stream.map_or(self.turn, |id| next(id.value()));
+                let next = filled.last_stream.and_then(gotsavena::StreamId::next);
+                self.turn = next.unwrap_or(self.turn);
                 return filled.more;
             }
             Err(MakeFault::NoMemory) => self.lacks_memory(),

@@ -121,7 +121,7 @@ pub struct Connection {
 
 // Around to the lowest, so that no stream waits for ever.
 fn stream_behind(last: Option<StreamId>) -> StreamId {
-    last.and_then(|last| StreamId::new(last.value() + 1))
+    last.and_then(StreamId::next)
         .unwrap_or(StreamId::new(0).expect("it is below 2^62"))
 }
 

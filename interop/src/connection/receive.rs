@@ -159,6 +159,7 @@ impl Connection {
             Ok(Received::NoMemory) => {
                 self.tell_dropped(Level::Data, number, Dropped::NoMemory, now)
             }
+            Ok(other) => Err(Fault::new(INTERNAL_ERROR, 0, &format!("{other:?}"))),
             Err(ReceiveFault::Closing(closing)) => {
                 let reason = "the stream layer refuses a frame";
                 Err(Fault::new(closing.code, closing.frame_type, reason))

@@ -390,10 +390,10 @@ fn frame_of(control: &Control) -> Frame<'_> {
 }
 
 // As many as fit, the highest first: older ones were in earlier ACKs.
-fn put_ranges(ranges: &[std::ops::Range<u64>], out: &mut Vec<u8>, room: usize) {
+fn put_ranges(ranges: &[(u64, u64)], out: &mut Vec<u8>, room: usize) {
     let at = out.len();
     out.resize(at + room.min(ACK_LEN), 0);
-    let len = put_ack(ranges, &mut out[at..]).map_or(0, |(_, len)| len);
+    let len = put_ack(ranges, 0, &mut out[at..]).map_or(0, |(_, len)| len);
     out.truncate(at + len);
 }
 

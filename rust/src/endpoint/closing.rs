@@ -3,6 +3,24 @@ use crate::answers::{Closing, NotedClose};
 
 /// # Closing
 impl Endpoint {
+    /// Whether the endpoint is closed, in whichever way: by a fault of the peer's ([`closing`](Endpoint::closing)), by a CONNECTION_CLOSE of
+    /// the peer's that it received ([`peer_closed`](Endpoint::peer_closed)), or by one that was noted
+    /// ([`noted_close`](Endpoint::noted_close)). It stays so (RFC 9000, section 10.2).
+    ///
+    /// ```
+    /// # use gotsavena::{CloseKind, Closer, Endpoint, NotedClose, Role, Settings};
+    /// # let settings = Settings::default();
+    /// # let mut client = Endpoint::new(Role::Client, settings, settings.limits())?;
+    /// assert!(!client.is_closed());
+    /// client.note_closed(NotedClose::new(Closer::Us, CloseKind::Application, 0));
+    /// assert!(client.is_closed());
+    /// # Ok::<(), Box<dyn std::error::Error>>(())
+    /// ```
+    #[must_use]
+    pub fn is_closed(&self) -> bool {
+        self.inner.is_closed()
+    }
+
     /// Why this endpoint closed; `None` while it is open, and if the peer closed (RFC 9000, section 10.2).
     ///
     /// ```
@@ -76,7 +94,7 @@ impl Endpoint {
     /// let own = Settings::small();
     /// let mut end = Endpoint::new(Role::Client, own, own.limits())?;
     /// // H3_NO_ERROR, not a TLS alert.
-    /// let close = NotedClose { by: Closer::Peer, kind: CloseKind::Application, code: 0x100 };
+    /// let close = NotedClose::new(Closer::Peer, CloseKind::Application, 0x100);
     /// end.note_closed(close);
     /// assert_eq!((end.noted_close(), end.peer_closed()), (Some(close), None));
     /// assert_eq!(end.open(Dir::Uni), Err(OpenFault::Closed));
@@ -94,7 +112,7 @@ impl Endpoint {
     /// # let mut client = Endpoint::new(Role::Client, settings, settings.limits())?;
     /// # let mut payload = [0; 1200];
     /// assert_eq!(client.noted_close(), None);
-    /// let close = NotedClose { by: Closer::Us, kind: CloseKind::Transport, code: 0 };
+    /// let close = NotedClose::new(Closer::Us, CloseKind::Transport, 0);
     /// client.note_closed(close);
     /// assert_eq!(client.noted_close(), Some(close));
     /// # Ok::<(), Box<dyn std::error::Error>>(())

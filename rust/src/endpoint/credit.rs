@@ -15,7 +15,7 @@ impl Endpoint {
     /// ```
     /// # use gotsavena::{Dir, Endpoint, PeerLimits, Role, Settings};
     /// # let settings = Settings::default();
-    /// let remembered = PeerLimits { streams_uni: 1, ..PeerLimits::default() };
+    /// let remembered = PeerLimits::default().streams_uni(1);
     /// let mut client = Endpoint::new(Role::Client, settings, remembered)?;
     /// assert_eq!(client.open_left(Dir::Uni), 1);
     /// client.raise_limits(settings.limits())?; // of the handshake
@@ -275,11 +275,11 @@ impl Endpoint {
     /// is too, or after a reset.
     ///
     /// ```
-    /// use gotsavena::{Dir, Endpoint, Held, Role, Settings};
+    /// use gotsavena::{Dir, Endpoint, Role, Settings};
     ///
     /// let settings = Settings::default();
     /// let mut end = Endpoint::new(Role::Client, settings, settings.limits())?;
-    /// assert_eq!(end.held(), Held { receiving: 0, sending: 0 });
+    /// assert_eq!((end.held().receiving, end.held().sending), (0, 0));
     ///
     /// let stream = end.open(Dir::Bidi)?;
     /// end.write(stream, b"hello")?;

@@ -17,7 +17,7 @@ impl Endpoint {
     /// ```
     /// # use gotsavena::{Dir, Endpoint, PeerLimits, Role, Settings};
     /// // The handshake tells the peer's limits.
-    /// let peer = PeerLimits { max_data: 1 << 20, streams_bidi: 10, ..PeerLimits::default() };
+    /// let peer = PeerLimits::default().max_data(1 << 20).streams_bidi(10);
     /// let client = Endpoint::new(Role::Client, Settings::default(), peer)?;
     /// assert_eq!((client.open_left(Dir::Bidi), client.credit_left()), (10, 1 << 20));
     /// # Ok::<(), Box<dyn std::error::Error>>(())

@@ -434,7 +434,7 @@ impl Endpoint {
     ///     while let Read::Bytes(count) = server.read(stream, &mut bytes)? {
     ///         assert_eq!(&bytes[..count], b"hello");
     ///     }
-    ///     from = StreamId::new(stream.value() + 1);
+    ///     from = stream.next();
     /// }
     /// assert_eq!(server.next_readable(stream), None);
     /// # Ok::<(), Box<dyn std::error::Error>>(())

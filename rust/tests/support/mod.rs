@@ -286,6 +286,6 @@ fn told_received(received: Result<Received, ReceiveFault>) -> String {
             let (code, frame_type) = (closing.code, closing.frame_type);
             format!("closing {code:#04x} {frame_type:#04x} {}", closing.place)
         }
-        Err(_) => unreachable!(),
+        _ => unreachable!(),
     }
 }
