@@ -163,3 +163,39 @@ fn limits_go_as_transport_parameters() {
     let end = Endpoint::new(Role::Client, settings, limits);
     assert!(end.is_ok());
 }
+
+/// The kinds of an enum, as its source has them.
+fn kinds(source: &str, name: &str) -> Vec<String> {
+    let begin = format!("pub enum {name} {{\n");
+    let body = source.split_once(&begin).expect("it is there").1;
+    let body = body.split_once("\n}").expect("it ends").0;
+    let lines = body.lines().map(str::trim_start);
+    let kinds = lines.filter(|line| line.starts_with(char::is_uppercase));
+    kinds
+        .map(|line| line.split(['(', ',']).next().unwrap_or(line).to_owned())
+        .collect()
+}
+
+#[test]
+fn each_answer_has_a_row() {
+    let page = concat!(env!("CARGO_MANIFEST_DIR"), "/../docs/GUIDE.md");
+    let Ok(page) = std::fs::read_to_string(page) else {
+        println!("skipped: docs/GUIDE.md isn't there");
+        return;
+    };
+    let (faults, answers) = (
+        include_str!("../src/faults.rs"),
+        include_str!("../src/answers.rs"),
+    );
+    let uses = kinds(faults, "UseFault");
+    assert!(uses.len() >= 7, "{uses:?}");
+    for kind in uses {
+        assert!(page.contains(&format!("| `{kind}` |")), "{kind}");
+    }
+    for kind in kinds(answers, "Received") {
+        assert!(page.contains(&format!("`Ok({kind}")), "{kind}");
+    }
+    for kind in kinds(faults, "ReceiveFault") {
+        assert!(page.contains(&format!("`Err({kind}")), "{kind}");
+    }
+}
