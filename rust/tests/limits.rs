@@ -555,7 +555,7 @@ const ELSEWHERE: &[(&str, &str)] = &[
         "crates/qs_machine/specs/Standing.antt",
     ),
     (
-        "It is proved that the answer of `held` keeps",
+        "What `held` returns is proved to lie in a band",
         "crates/qs_conn/specs/Held.antt",
     ),
     ("`noted`", "embed/quinn/faults.rs"),
