@@ -87,9 +87,9 @@ static void take_frame(world *w, unsigned sender, size_t room, gv_frame *frame, 
 
 /* An ACK of ranges: the highest first, each so long, and so far below the one before. */
 static size_t take_ack(world *w, uint8_t *out, size_t room) {
-  gv_range ranges[MOST_RANGES];
+  gv_range ranges[MOST_RANGES + 1];
   size_t written = 0, len = 0;
-  size_t count = take_byte(&w->in) % (MOST_RANGES + 1);
+  size_t count = take_byte(&w->in) % (MOST_RANGES + 2);
   uint64_t above = take_number(&w->in);
   for (size_t i = 0; i < count; i++) {
     uint64_t length = take_byte(&w->in);
@@ -101,7 +101,7 @@ static size_t take_ack(world *w, uint8_t *out, size_t room) {
   gv_status status = gv_put_ack(ranges, count, 0, out, room, &written, &len);
   mix(w, status);
   if (status != GV_OK) return 0;
-  check(written > 0 && written <= count && len > 0 && len <= room, "ranges are written");
+  check(written > 0 && written <= count && count <= MOST_RANGES && len > 0 && len <= room, "ranges are written");
   mix(w, written);
   return len;
 }

@@ -63,6 +63,37 @@ static bool is_readable(const side *s, uint64_t stream, const gv_receiving *r) {
   return status == GV_OK || is_new_end || (status == GV_RESET_BY_PEER && r->state != GV_RECV_STATE_RESET_READ);
 }
 
+/* What is said of a stream stays, or grows. */
+static void check_receiving(side *s, uint64_t stream, const gv_receiving *r, uint64_t taken) {
+  if (stream >= STREAMS) return;
+  seen *last = &s->seen[stream];
+  const gv_receiving *was = &last->receiving;
+  bool is_same_state = was->state != GV_RECV_STATE_DATA_READ || r->state == was->state;
+  check(r->state >= was->state && is_same_state, "a receiving half goes on from state to state");
+  check(r->highest >= was->highest && r->limit >= was->limit, "what came and what is granted never fall");
+  check(r->read_count >= was->read_count && taken >= last->taken, "what was read never falls");
+  check(!was->has_final_size || (r->has_final_size && r->final_size == was->final_size), "a final size stays");
+  check(!was->was_reset || (r->was_reset && r->reset_code == was->reset_code), "the code of the peer's reset stays");
+  check(!was->was_stopped || (r->was_stopped && r->stop_code == was->stop_code), "the code of a stop stays");
+  last->receiving = *r;
+  last->taken = taken;
+}
+
+static void check_sending(side *s, uint64_t stream, const gv_sending *r, uint64_t acked, uint64_t stopped) {
+  if (stream >= STREAMS) return;
+  seen *last = &s->seen[stream];
+  const gv_sending *was = &last->sending;
+  bool is_same_state = was->state != GV_SEND_STATE_DATA_RECVD || r->state == was->state;
+  check(r->state >= was->state && is_same_state, "a sending half goes on from state to state");
+  check(r->written >= was->written && r->limit >= was->limit && acked >= last->acked, "what was written and acknowledged never falls");
+  check(!was->has_final_size || (r->has_final_size && r->final_size == was->final_size), "a final size that was sent stays");
+  check(!was->was_reset || (r->was_reset && r->reset_code == was->reset_code), "the code of a reset stays");
+  check(last->stopped == 0 || stopped == last->stopped, "the code of the first STOP_SENDING stays");
+  last->sending = *r;
+  last->acked = acked;
+  last->stopped = stopped;
+}
+
 static void look_at_receiving(side *s, uint64_t stream, const gv_receiving *r, sums *all, uint64_t *hash) {
   uint64_t taken = 0;
   bool is_over = r->state == GV_RECV_STATE_DATA_READ || r->state == GV_RECV_STATE_RESET_READ;
@@ -72,6 +103,7 @@ static void look_at_receiving(side *s, uint64_t stream, const gv_receiving *r, s
   check(!r->was_reset || taken == r->final_size, "a reset stream counts as consumed");
   check(r->was_reset || r->was_stopped || taken == r->read_count, "what was read counts as consumed");
   check(is_next(s, stream, gv_next_readable) == is_readable(s, stream, r), "which streams are readable");
+  check_receiving(s, stream, r, taken);
   all->taken += taken;
   all->highest += r->highest;
   if (!is_over && !r->was_reset && !r->was_stopped) all->receiving++;
@@ -96,6 +128,7 @@ static void look_at_sending(side *s, uint64_t stream, const gv_sending *r, sums 
   check(room == 0 || is_writable, "a stream with room is writable");
   check(s->bounds_writes || !is_writable || room > 0, "a writable stream has room");
   check(!closed || (room == 0 && !is_blocked), "nothing is written to a closed endpoint");
+  check_sending(s, stream, r, acked, stopped == GV_OK ? code + 1 : 0);
   all->unsent += unsent;
   all->kept += r->was_reset ? 0 : r->written - acked;
   all->sending++;

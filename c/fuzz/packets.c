@@ -43,7 +43,7 @@ static void check_packet(side *s, const gv_made *made, const uint8_t *out, size_
 
 static gv_status make_by(world *w, side *s, unsigned way, size_t room, gv_made *made, uint8_t *out) {
   uint64_t first = 0, delay = 0, before;
-  gv_status status;
+  gv_status status = GV_INVALID;
   if (way == 1) first = take_number(&w->in);
   if (way != 0) delay = take_number(&w->in);
   do {
@@ -375,17 +375,75 @@ void receive_pieces(world *w, side *s) {
   (void)receive(w, s, number, out, len, false);
 }
 
-/* A PING under each of many numbers. */
+/* A PING under each of many numbers, that rise or fall. */
 void receive_numbers(world *w, side *s) {
   static const uint8_t ping[] = {1};
   uint64_t number = take_number(&w->in);
-  uint64_t step = take_byte(&w->in);
+  unsigned how = take_byte(&w->in);
   unsigned count = take_byte(&w->in), taken = 0;
+  uint64_t step = how & 0x80 ? UINT64_C(0) - (how & 0x7f) : how;
   was_hostile(w);
-  for (unsigned i = 0; i < count; i++) {
-    if (receive_plainly(s, number + i * step, ping, sizeof ping) == GV_OK) taken++;
+  for (unsigned i = 0; i < count; i++, number += step) {
+    if (receive_plainly(s, number, ping, sizeof ping) != GV_OK) continue;
+    gv_status again = gv_receive(s->end, number, ping, sizeof ping);
+    check(again == GV_DUPLICATE || again == GV_TOO_OLD, "a number counts once");
+    taken++;
   }
   mix(w, taken);
+}
+
+static bool closed_with(const side *s, uint64_t code) {
+  gv_closing_info why = {.size = sizeof why};
+  return gv_closing(s->end, &why) == GV_OK && why.code == code;
+}
+
+/* Receives a frame whose verdict is known: none, or a close with a code. */
+static void receive_judged(world *w, side *s, uint64_t number, const gv_frame *frame, uint64_t code) {
+  uint8_t out[64];
+  size_t len = 0;
+  bool was_open = !is_closed(s->end);
+  check(gv_put(frame, out, sizeof out, &len) == GV_OK, "a frame at a limit");
+  was_hostile(w);
+  gv_status status = gv_receive(s->end, number, out, len);
+  while (status == GV_NO_MEMORY) status = gv_receive(s->end, number, out, len);
+  mix(w, status);
+  if (!was_open || status == GV_INVALID || status == GV_DUPLICATE || status == GV_TOO_OLD) return;
+  check(code == 0 ? status == GV_OK : status == GV_PROTOCOL_ERROR && closed_with(s, code), "what comes at a limit, and one beyond it");
+}
+
+/* The last byte that a stream's limit and the connection's permit, or the one behind it, by a STREAM frame or a RESET_STREAM. */
+void receive_at_limit(world *w, side *s) {
+  enum { FLOW_CONTROL_ERROR = 3 };
+  uint8_t byte;
+  gv_frame frame = {.size = sizeof frame, .kind = GV_FRAME_STREAM, .len = 1, .bytes = &byte};
+  gv_receiving half = {.size = sizeof half};
+  uint64_t granted = 0, spent = 0;
+  uint64_t number = take_number(&w->in);
+  frame.stream = take_number(&w->in);
+  unsigned how = take_byte(&w->in);
+  if (gv_receiving_report(s->end, frame.stream, &half) != GV_OK || half.has_final_size) return;
+  check(gv_granted(s->end, &granted) == GV_OK && gv_spent(s->end, &spent) == GV_OK, "questions");
+  uint64_t most = half.highest + (granted - spent);
+  frame.final_size = (half.limit < most ? half.limit : most) + (how & 1);
+  if (frame.final_size == 0 || frame.final_size >= NUMBERS) return;
+  frame.offset = frame.final_size - 1;
+  byte = pattern(1 - s->name, frame.stream, frame.offset);
+  if (how & 2) frame.kind = GV_FRAME_RESET_STREAM;
+  receive_judged(w, s, number, &frame, how & 1 ? FLOW_CONTROL_ERROR : 0);
+}
+
+/* The last stream that the count permits, or the one behind it. */
+void receive_at_count(world *w, side *s) {
+  enum { STREAM_LIMIT_ERROR = 4 };
+  gv_frame frame = {.size = sizeof frame, .kind = GV_FRAME_STREAM};
+  uint64_t granted = 0;
+  uint64_t number = take_number(&w->in);
+  unsigned how = take_byte(&w->in);
+  check(gv_granted_streams(s->end, (gv_dir)(how >> 1 & 1), &granted) == GV_OK, "how many streams the peer may open");
+  if (granted + (how & 1) == 0) return;
+  frame.stream = 4 * (granted + (how & 1) - 1) + (how & 2) + (s->role == GV_ROLE_CLIENT ? 1 : 0);
+  if (gv_receiving_report(s->end, frame.stream, &(gv_receiving){.size = sizeof(gv_receiving)}) == GV_OK) return;
+  receive_judged(w, s, number, &frame, how & 1 ? STREAM_LIMIT_ERROR : 0);
 }
 
 /* Many packets with a byte of a stream each, of which none comes. Seldom very many, since that takes long. */
@@ -456,21 +514,23 @@ void join(world *w, side *s) {
   mix(w, status);
 }
 
-/* Each side makes a packet, and the other one gets it. */
-static bool exchange(world *w, size_t room, bool tells) {
+/* Each side makes so many packets, and the other one gets them. */
+static bool exchange(world *w, size_t room, bool tells, unsigned most) {
   static uint8_t out[MOST_ROOM];
   bool any = false;
   for (size_t i = 0; i < SIDES; i++) {
     side *s = &w->sides[i];
-    gv_made made = {.size = sizeof made};
-    gv_status status;
-    do status = gv_make_packet(s->end, out, room, &made);
-    while (status == GV_NO_MEMORY);
-    mix(w, status);
-    if (status != GV_OK) continue;
-    any = true;
-    mix(w, made.len);
-    (void)receive(w, other(w, s), made.number, out, made.len, tells);
+    for (unsigned j = 0; j < most; j++) {
+      gv_made made = {.size = sizeof made};
+      gv_status status;
+      do status = gv_make_packet(s->end, out, room, &made);
+      while (status == GV_NO_MEMORY);
+      mix(w, status);
+      if (status != GV_OK) break;
+      any = true;
+      mix(w, made.len);
+      (void)receive(w, other(w, s), made.number, out, made.len, tells);
+    }
   }
   return any;
 }
@@ -478,7 +538,7 @@ static bool exchange(world *w, size_t room, bool tells) {
 void carry(world *w, side *s) {
   unsigned how = take_byte(&w->in);
   size_t room = 128 + 508 * (size_t)(how >> 3); /* at most 15,876 */
-  for (unsigned i = 0; i <= (how & 3); i++) (void)exchange(w, room, how & 4);
+  for (unsigned i = 0; i <= (how & 3); i++) (void)exchange(w, room, how & 4, i + 1);
   look(w, s);
   look(w, other(w, s));
 }
@@ -515,7 +575,7 @@ void settle(world *w) {
   for (size_t i = 0; i < SIDES; i++) declare_all_lost(&w->sides[i]);
   for (unsigned i = 0; i < ROUNDS && any; i++) {
     for (size_t j = 0; j < SIDES; j++) read_all(w, &w->sides[j]);
-    any = exchange(w, MOST_ROOM, false);
+    any = exchange(w, MOST_ROOM, true, 2);
   }
   for (size_t i = 0; i < SIDES; i++) any = any || is_closed(w->sides[i].end);
   if (any) return;

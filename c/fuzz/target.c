@@ -122,6 +122,7 @@ static void call(world *w, side *s, unsigned which) {
     take_composed, use_number, join, carry, carry, open_one, open_one, accept_one, write_some, write_some, write_some, end_sending,
     end_receiving, read_some, consume_some, set_one, raise_limits, note_closed, hear, hear, report_blocked, refuse, search, look_close,
     read_frames, put_ranges, pass_wrong_arguments, receive_pieces, receive_numbers, make_many,
+    receive_at_limit, receive_at_count,
   };
   calls[which % (sizeof calls / sizeof *calls)](w, s);
 }
@@ -155,6 +156,7 @@ uint64_t run(const uint8_t *bytes, size_t len) {
       side *s = &w.sides[which >> 7];
       call(&w, s, which & 0x7f);
       look(&w, s);
+      if (++w.calls % 4 == 0) (void)look_at_all(s);
     }
   }
   end_world(&w);

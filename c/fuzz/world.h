@@ -27,6 +27,14 @@ typedef struct packet {
   gv_token token;
 } packet;
 
+/* What was last seen of a stream. */
+typedef struct seen {
+  gv_sending sending;
+  gv_receiving receiving;
+  uint64_t acked, taken;
+  uint64_t stopped; /* the code of the peer's STOP_SENDING and one, or 0 */
+} seen;
+
 typedef struct side {
   gv_endpoint *end;
   unsigned name; /* 0 or 1 */
@@ -39,6 +47,7 @@ typedef struct side {
   uint64_t widest, widest_buffer; /* the widest window of the connection that was set, and the largest buffer of a stream */
   uint64_t granted, spent, taken, next_number;
   gv_token joined;
+  seen seen[STREAMS];
   uint16_t news[STREAMS]; /* which events came of a stream, a bit for each kind */
 } side;
 
@@ -51,6 +60,7 @@ typedef struct world {
   bool is_whole;  /* whether no packet counts as acknowledged that didn't come */
   bool is_compared; /* whether answers still go into the digest: not once memory was refused, which C and Rust ask for in other places */
   uint64_t digest;
+  unsigned calls; /* how many were made */
 } world;
 
 /* The sums over the streams of an endpoint, which it tells in constant time. */
@@ -90,6 +100,8 @@ void receive_composed(world *w, side *s);
 void take_composed(world *w, side *s);
 void receive_pieces(world *w, side *s);
 void receive_numbers(world *w, side *s);
+void receive_at_limit(world *w, side *s);
+void receive_at_count(world *w, side *s);
 void make_many(world *w, side *s);
 void use_number(world *w, side *s);
 void join(world *w, side *s);

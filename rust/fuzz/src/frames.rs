@@ -1,6 +1,7 @@
 //! Frames are read and written without an endpoint.
 
 use crate::codes::{Answer, Code, INVALID, NO_ROOM, NONE, OK};
+use crate::input::Input;
 use crate::world::{MOST_PAYLOAD, Side, World, has_pattern, pattern};
 use gotsavena::{
     AckRanges, Dir, EcnCounts, Frame, StreamId, frames, last_stream, put, put_ack, read_varint,
@@ -56,94 +57,51 @@ fn take_fields(w: &mut World<'_>, sender: usize, room: usize) -> Fields {
     for number in &mut f.numbers[..numbers] {
         *number = input.number();
     }
-    match f.kind {
-        2 => {
-            let most = input.byte() as usize % 16;
-            f.bytes = whole_numbers(input.bytes(most)).to_vec();
-        }
-        7 => {
-            let mut len = input.size();
-            if len + 24 > room {
-                len = room.saturating_sub(24);
-            }
-            let [stream, offset, _] = f.numbers;
-            f.bytes = (0..len as u64)
-                .map(|at| pattern(sender, stream, offset.wrapping_add(at)))
-                .collect();
-        }
-        14 => f.bytes = vec![7; input.byte() as usize % 22],
-        5 | 6 | 16..=19 => f.bytes = vec![9; input.byte() as usize % 16],
-        _ => {}
-    }
+    f.bytes = take_frame_bytes(input, &f, sender, room);
     f
 }
 
-impl Fields {
-    fn stream(&self) -> Answer<StreamId> {
-        StreamId::new(self.numbers[0]).ok_or(INVALID)
+fn take_frame_bytes(input: &mut Input<'_>, f: &Fields, sender: usize, room: usize) -> Vec<u8> {
+    match f.kind {
+        2 => {
+            let most = input.byte() as usize % 16;
+            whole_numbers(input.bytes(most)).to_vec()
+        }
+        7 => {
+            let len = input.size();
+            let fitting = if len + 24 > room {
+                room.saturating_sub(24)
+            } else {
+                len
+            };
+            let [stream, offset, _] = f.numbers;
+            let offsets = (0..fitting as u64).map(|at| offset.wrapping_add(at));
+            offsets.map(|at| pattern(sender, stream, at)).collect()
+        }
+        14 => vec![7; input.byte() as usize % 22],
+        5 | 6 | 16..=19 => vec![9; input.byte() as usize % 16],
+        _ => Vec::new(),
     }
+}
 
+impl Fields {
     fn dir(&self) -> Dir {
         if self.dir == 0 { Dir::Bidi } else { Dir::Uni }
     }
 
     fn frame(&self) -> Answer<Frame<'_>> {
-        let ([first, second, third], bytes) = (self.numbers, self.bytes.as_slice());
+        let [first, second, _] = self.numbers;
+        let (dir, bytes) = (self.dir(), self.bytes.as_slice());
         Ok(match self.kind {
             0 => Frame::Padding,
             1 => Frame::Ping,
-            2 => {
-                let ecn = EcnCounts {
-                    ect0: third,
-                    ect1: third,
-                    ce: third,
-                };
-                let ecn = self.has_ecn.then_some(ecn);
-                Frame::Ack {
-                    largest: first,
-                    delay: second,
-                    ranges: bytes,
-                    ecn,
-                }
-            }
-            3 => Frame::ResetStream {
-                stream: self.stream()?,
-                code: second,
-                final_size: third,
-            },
-            4 => Frame::StopSending {
-                stream: self.stream()?,
-                code: second,
-            },
-            5 => Frame::Crypto {
-                offset: first,
-                bytes,
-            },
+            2 => self.ack(),
+            3 | 4 | 7 | 9 | 12 => self.frame_on(StreamId::new(first).ok_or(INVALID)?),
             6 => Frame::NewToken { bytes },
-            7 => Frame::Stream {
-                stream: self.stream()?,
-                offset: second,
-                fin: self.fin,
-                bytes,
-            },
             8 => Frame::MaxData { maximum: first },
-            9 => Frame::MaxStreamData {
-                stream: self.stream()?,
-                maximum: second,
-            },
-            10 => Frame::MaxStreams {
-                dir: self.dir(),
-                count: first,
-            },
+            10 => Frame::MaxStreams { dir, count: first },
             11 => Frame::DataBlocked { limit: first },
-            12 => Frame::StreamDataBlocked {
-                stream: self.stream()?,
-                limit: second,
-            },
-            13 => Frame::StreamsBlocked {
-                dir: self.dir(),
-                count: first,
-            },
+            13 => Frame::StreamsBlocked { dir, count: first },
             14 => Frame::NewConnectionId {
                 sequence: first,
                 retire: second,
@@ -153,23 +111,78 @@ impl Fields {
             15 => Frame::RetireConnectionId { sequence: first },
             16 => Frame::PathChallenge { bytes },
             17 => Frame::PathResponse { bytes },
+            5 | 18 | 19 => self.frame_with_bytes(),
+            _ => Frame::HandshakeDone,
+        })
+    }
+
+    fn ack(&self) -> Frame<'_> {
+        let [largest, delay, count] = self.numbers;
+        let ecn = EcnCounts {
+            ect0: count,
+            ect1: count,
+            ce: count,
+        };
+        Frame::Ack {
+            largest,
+            delay,
+            ranges: &self.bytes,
+            ecn: self.has_ecn.then_some(ecn),
+        }
+    }
+
+    fn frame_on(&self, stream: StreamId) -> Frame<'_> {
+        let [_, second, third] = self.numbers;
+        match self.kind {
+            3 => Frame::ResetStream {
+                stream,
+                code: second,
+                final_size: third,
+            },
+            4 => Frame::StopSending {
+                stream,
+                code: second,
+            },
+            9 => Frame::MaxStreamData {
+                stream,
+                maximum: second,
+            },
+            12 => Frame::StreamDataBlocked {
+                stream,
+                limit: second,
+            },
+            _ => Frame::Stream {
+                stream,
+                offset: second,
+                fin: self.fin,
+                bytes: &self.bytes,
+            },
+        }
+    }
+
+    fn frame_with_bytes(&self) -> Frame<'_> {
+        let ([first, second, _], bytes) = (self.numbers, self.bytes.as_slice());
+        match self.kind {
+            5 => Frame::Crypto {
+                offset: first,
+                bytes,
+            },
             18 => Frame::ConnectionClose {
                 code: first,
                 frame_type: second,
                 reason: bytes,
             },
-            19 => Frame::ApplicationClose {
+            _ => Frame::ApplicationClose {
                 code: first,
                 reason: bytes,
             },
-            _ => Frame::HandshakeDone,
-        })
+        }
     }
 }
 
 /// An ACK of ranges: the highest first, each so long, and so far below the one before.
 fn take_ack(w: &mut World<'_>, out: &mut [u8]) -> usize {
-    let count = w.input.byte() as usize % (MOST_RANGES + 1);
+    let count = w.input.byte() as usize % (MOST_RANGES + 2);
     let mut above = w.input.number();
     let mut ranges = Vec::new();
     for _ in 0..count {

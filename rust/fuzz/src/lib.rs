@@ -8,13 +8,15 @@ mod input;
 mod looks;
 mod memory;
 mod packets;
+mod seen;
 mod streams;
 mod world;
 
-use codes::{Code, OUT_OF_RANGE, TOO_MANY_STREAMS};
+use codes::{Code, OK, OUT_OF_RANGE, TOO_MANY_STREAMS};
 use gotsavena::{Endpoint, PeerLimits, Role, Settings, Share, Token, Tuning};
 use input::Input;
 use memory::Memory;
+use seen::Seen;
 use world::{Digest, PACKETS, STREAMS, Side, World};
 
 /// A window or a buffer, now and then of any size.
@@ -109,55 +111,54 @@ fn make_side(
             first: 0,
             number: 0,
         },
+        seen: [Seen::default(); STREAMS],
         news: [0; STREAMS],
     })
+}
+
+/// What both endpoints are made with, and what each knows of the other one's limits.
+fn take_plans(input: &mut Input<'_>, is_honest: bool) -> [(Plan, PeerLimits); 2] {
+    let mut take = || {
+        let plan = take_plan(input);
+        let granted = if is_honest {
+            plan.settings.limits()
+        } else {
+            streams::take_limits(input)
+        };
+        (plan, granted)
+    };
+    let (first, of_first) = take();
+    let (second, of_second) = take();
+    [(first, of_second), (second, of_first)]
 }
 
 /// Makes both endpoints; the digest alone if a setting is out of its range.
 fn begin<'a>(mut input: Input<'a>) -> Result<World<'a>, u64> {
     let first = input.byte();
     let is_honest = first & 2 == 0;
-    let mut plans = Vec::new();
-    let mut limits = [PeerLimits::default(); 2];
-    for at in [0, 1] {
-        let plan = take_plan(&mut input);
-        limits[1 - at] = if is_honest {
-            plan.settings.limits()
-        } else {
-            streams::take_limits(&mut input)
-        };
-        plans.push(plan);
-    }
-    let mut digest = Digest {
-        value: 0,
-        is_compared: true,
-    };
+    let plans = take_plans(&mut input, is_honest);
+    let mut digest = Digest::new();
     let mut make = |at: usize| {
-        let is_client = (first & 1 == 0) == (at == 0);
-        let role = if is_client {
-            Role::Client
-        } else {
-            Role::Server
-        };
-        let made = make_side(at, role, first >> (2 + 3 * at), &plans[at], limits[at]);
-        digest.mix(codes::code(&made));
-        made.map_err(|status| {
-            assert!(
-                [OUT_OF_RANGE, TOO_MANY_STREAMS].contains(&status),
-                "an endpoint"
-            );
-            digest.value
-        })
+        let roles = [Role::Client, Role::Server];
+        let role = roles[(first as usize & 1) ^ at];
+        let (plan, peer) = &plans[at];
+        let made = make_side(at, role, first >> (2 + 3 * at), plan, *peer);
+        let status = codes::code(&made);
+        let is_known = [OK, OUT_OF_RANGE, TOO_MANY_STREAMS].contains(&status);
+        assert!(is_known, "an endpoint");
+        digest.mix(status);
+        made.map_err(|_| digest.value)
     };
     let sides = [make(0)?, make(1)?];
     let packets = [const { None }; PACKETS];
+    let is_whole = is_honest;
     Ok(World {
         input,
         sides,
         packets,
         place: 0,
         is_honest,
-        is_whole: is_honest,
+        is_whole,
         digest,
     })
 }
@@ -175,7 +176,7 @@ fn refuse(w: &mut World<'_>, at: usize) {
 type Call = fn(&mut World<'_>, usize);
 
 /// In the order of the C target. One of its calls passes wrong arguments, which Rust hasn't.
-const CALLS: [Call; 43] = [
+const CALLS: [Call; 45] = [
     packets::make,
     packets::make,
     packets::make,
@@ -219,6 +220,8 @@ const CALLS: [Call; 43] = [
     packets::receive_pieces,
     packets::receive_numbers,
     packets::make_many,
+    packets::receive_at_limit,
+    packets::receive_at_count,
 ];
 
 /// Plays an input, and returns a digest of the answers.
@@ -231,11 +234,16 @@ pub fn run(bytes: &[u8]) -> u64 {
         Ok(w) => w,
         Err(digest) => return digest,
     };
+    let mut calls = 0;
     while !w.input.0.is_empty() {
         let which = w.input.byte();
         let at = usize::from(which >> 7 != 0);
         CALLS[(which & 0x7f) as usize % CALLS.len()](&mut w, at);
         looks::look(&mut w, at);
+        calls += 1;
+        if calls % 4 == 0 {
+            looks::look_at_all(&mut w.sides[at]);
+        }
     }
     for s in &mut w.sides {
         s.memory.refusals = 0;

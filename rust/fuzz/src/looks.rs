@@ -18,52 +18,35 @@ struct Sums {
     sending: u64,
 }
 
-/// After each call: what grows never falls, and no more is kept than was granted.
+/// What grows never falls, and no more is kept than was granted.
+fn check_counts(s: &mut Side) {
+    let (granted, spent, taken) = (s.end.granted(), s.end.spent(), s.end.taken_sum());
+    let (next, stored) = (s.end.next_number(), s.end.stored());
+    let grows = granted >= s.granted && spent >= s.spent && taken >= s.taken;
+    assert!(grows && next >= s.next_number, "what grows never falls");
+    let is_granted = taken <= spent && spent <= granted;
+    assert!(is_granted, "no more comes than was granted");
+    let is_in_window = granted <= taken + s.widest;
+    assert!(is_in_window, "no more is granted than the window");
+    let is_stored = stored <= spent - taken && s.end.noted() <= spent;
+    assert!(is_stored, "no more is stored than came, nor noted");
+    let is_kept = s.end.unsent_sum() <= s.end.kept_sum();
+    assert!(is_kept, "what wasn't sent is kept");
+    (s.granted, s.spent, s.taken, s.next_number) = (granted, spent, taken, next);
+}
+
+/// After each call.
 pub fn look(w: &mut World<'_>, at: usize) {
     let s = &mut w.sides[at];
-    let (granted, spent, taken, stored) = (
-        s.end.granted(),
-        s.end.spent(),
-        s.end.taken_sum(),
-        s.end.stored(),
-    );
-    let (next, noted, unsent, kept) = (
-        s.end.next_number(),
-        s.end.noted(),
-        s.end.unsent_sum(),
-        s.end.kept_sum(),
-    );
+    check_counts(s);
     let closed = s.is_closed();
     assert!(closed || !s.was_closed, "a closed endpoint stays closed");
-    assert!(
-        granted >= s.granted && spent >= s.spent,
-        "what grows never falls"
-    );
-    assert!(
-        taken >= s.taken && next >= s.next_number,
-        "what grows never falls"
-    );
-    assert!(
-        taken <= spent && spent <= granted,
-        "no more comes than was granted"
-    );
-    assert!(
-        granted <= taken + s.widest,
-        "no more is granted than the window"
-    );
-    assert!(
-        stored <= spent - taken && noted <= spent,
-        "no more is stored than came, nor noted"
-    );
-    assert!(unsent <= kept, "what wasn't sent is kept");
-    assert!(
-        !w.is_honest || s.end.closing().is_none(),
-        "an honest peer breaks no rule"
-    );
     s.was_closed = closed;
-    (s.granted, s.spent, s.taken, s.next_number) = (granted, spent, taken, next);
-    for value in [granted, spent, stored, kept, u64::from(closed)] {
-        w.mix(value);
+    let is_right = !w.is_honest || s.end.closing().is_none();
+    assert!(is_right, "an honest peer breaks no rule");
+    let (stored, kept) = (s.end.stored(), s.end.kept_sum());
+    for value in [s.granted, s.spent, stored, kept, u64::from(closed)] {
+        w.digest.mix(value);
     }
 }
 
@@ -85,43 +68,58 @@ pub fn peek_code(s: &Side, stream: StreamId) -> (u64, u64) {
         Ok(Peek::End) => (END_OF_STREAM, 0),
         Ok(Peek::Reset(code)) => (RESET_BY_PEER, code),
         Ok(Peek::Wait) => (NOTHING_YET, 0),
+        #[allow(unreachable_patterns)]
+        Ok(_) => panic!("an unknown answer"),
         Err(fault) => (fault.number(), 0),
     }
 }
 
-fn look_at_receiving(s: &Side, stream: StreamId, r: &RecvReport, all: &mut Sums, hash: &mut u64) {
-    let taken = s.end.taken(stream).expect("a receiving half");
+/// Whether a read returns something new.
+fn is_readable(s: &Side, stream: StreamId, r: &RecvReport) -> bool {
+    let (peeked, _) = peek_code(s, stream);
+    let is_new_end = peeked == END_OF_STREAM && r.state != RecvState::DataRead;
+    let is_new_reset = peeked == RESET_BY_PEER && r.state != RecvState::ResetRead;
+    peeked == OK || is_new_end || is_new_reset
+}
+
+fn check_receiving(s: &Side, stream: StreamId, r: &RecvReport, taken: u64) {
     assert!(taken <= r.highest, "what counts as consumed came");
-    assert!(
-        r.highest <= r.limit && r.read_count <= taken,
-        "a stream stays within its limit"
-    );
+    let is_within = r.highest <= r.limit && r.read_count <= taken;
+    assert!(is_within, "a stream stays within its limit");
     assert!(
         r.final_size.is_none_or(|size| size == r.highest),
         "the final size"
     );
     let (was_reset, was_stopped) = (r.reset_code.is_some(), r.stop_code.is_some());
-    assert!(
-        !was_reset || Some(taken) == r.final_size,
-        "a reset stream counts as consumed"
-    );
-    assert!(
-        was_reset || was_stopped || taken == r.read_count,
-        "what was read counts as consumed"
-    );
-    let (peeked, _) = peek_code(s, stream);
-    let is_new_end = peeked == END_OF_STREAM && r.state != RecvState::DataRead;
-    let is_new_reset = peeked == RESET_BY_PEER && r.state != RecvState::ResetRead;
-    let is_readable = peeked == OK || is_new_end || is_new_reset;
+    let is_consumed = !was_reset || Some(taken) == r.final_size;
+    assert!(is_consumed, "a reset stream counts as consumed");
+    let is_read = was_reset || was_stopped || taken == r.read_count;
+    assert!(is_read, "what was read counts as consumed");
+    let is_found = is_next(s, stream, Endpoint::next_readable);
     assert_eq!(
-        is_next(s, stream, Endpoint::next_readable),
-        is_readable,
-        "which are readable"
+        is_found,
+        is_readable(s, stream, r),
+        "which streams are readable"
     );
+}
+
+fn look_at_receiving(
+    s: &mut Side,
+    stream: StreamId,
+    r: &RecvReport,
+    all: &mut Sums,
+    hash: &mut u64,
+) {
+    let taken = s.end.taken(stream).expect("a receiving half");
+    check_receiving(s, stream, r, taken);
+    if let Some(seen) = s.seen.get_mut(stream.value() as usize) {
+        seen.check_receiving(r, taken);
+    }
     all.taken += taken;
     all.highest += r.highest;
     let is_over = matches!(r.state, RecvState::DataRead | RecvState::ResetRead);
-    all.receiving += u64::from(!is_over && !was_reset && !was_stopped);
+    let is_kept = !is_over && r.reset_code.is_none() && r.stop_code.is_none();
+    all.receiving += u64::from(is_kept);
     let stop = r.stop_code.map_or(0, |code| code + 1);
     let (state, has_size) = (r.state as u64, u64::from(r.final_size.is_some()));
     for value in [state, r.read_count, r.highest, r.limit, has_size, stop] {
@@ -129,10 +127,8 @@ fn look_at_receiving(s: &Side, stream: StreamId, r: &RecvReport, all: &mut Sums,
     }
 }
 
-fn look_at_sending(s: &Side, stream: StreamId, r: &SendReport, all: &mut Sums, hash: &mut u64) {
-    let acked = s.end.acked_below(stream).expect("a sending half");
-    let (unsent, room) = (s.end.unsent(stream), s.end.room(stream));
-    let is_blocked = s.end.is_blocked(stream);
+fn check_sending(s: &Side, stream: StreamId, r: &SendReport, acked: u64, unsent: u64) {
+    let (room, is_blocked) = (s.end.room(stream), s.end.is_blocked(stream));
     assert!(
         acked + unsent <= r.written,
         "what is unsent isn't acknowledged"
@@ -141,43 +137,34 @@ fn look_at_sending(s: &Side, stream: StreamId, r: &SendReport, all: &mut Sums, h
         !is_blocked || unsent > 0,
         "a blocked stream has something to send"
     );
-    assert!(
-        r.final_size.is_none_or(|size| size <= r.written),
-        "the final size of a sending half"
-    );
+    let is_sized = r.final_size.is_none_or(|size| size <= r.written);
+    assert!(is_sized, "the final size of a sending half");
     let is_writable = is_next(s, stream, Endpoint::next_writable);
     assert!(room == 0 || is_writable, "a stream with room is writable");
-    assert!(
-        s.bounds_writes || !is_writable || room > 0,
-        "a writable stream has room"
-    );
-    assert!(
-        !s.is_closed() || (room == 0 && !is_blocked),
-        "nothing is written to a closed endpoint"
-    );
+    let has_room = s.bounds_writes || !is_writable || room > 0;
+    assert!(has_room, "a writable stream has room");
+    let is_idle = !s.is_closed() || (room == 0 && !is_blocked);
+    assert!(is_idle, "nothing is written to a closed endpoint");
+}
+
+fn look_at_sending(s: &mut Side, stream: StreamId, r: &SendReport, all: &mut Sums, hash: &mut u64) {
+    let acked = s.end.acked_below(stream).expect("a sending half");
+    let (unsent, stopped) = (s.end.unsent(stream), s.end.stopped_with(stream));
+    check_sending(s, stream, r, acked, unsent);
+    if let Some(seen) = s.seen.get_mut(stream.value() as usize) {
+        seen.check_sending(r, acked, stopped);
+    }
     all.unsent += unsent;
-    all.kept += if r.reset_code.is_some() {
-        0
-    } else {
-        r.written - acked
-    };
+    all.kept += r.reset_code.map_or(r.written - acked, |_| 0);
     all.sending += 1;
     let is_sendable = u64::from(is_next(s, stream, Endpoint::next_sendable));
-    let stop = s.end.stopped_with(stream).map_or(0, |code| code + 1);
-    for value in [
-        r.state as u64,
-        r.written,
-        r.limit,
-        acked,
-        unsent,
-        is_sendable,
-        stop,
-    ] {
+    let (state, stop) = (r.state as u64, stopped.map_or(0, |code| code + 1));
+    for value in [state, r.written, r.limit, acked, unsent, is_sendable, stop] {
         fold(hash, value);
     }
 }
 
-fn look_at_stream(s: &Side, stream: StreamId, all: &mut Sums, hash: &mut u64) -> bool {
+fn look_at_stream(s: &mut Side, stream: StreamId, all: &mut Sums, hash: &mut u64) -> bool {
     let Some(report) = s.end.report(stream) else {
         return false;
     };
@@ -228,7 +215,7 @@ pub fn look_at_all(s: &mut Side) -> u64 {
     hash
 }
 
-fn look_at_streams(s: &Side) -> (u64, bool, Sums) {
+fn look_at_streams(s: &mut Side) -> (u64, bool, Sums) {
     let (mut all, mut hash, mut is_whole) = (Sums::default(), 0, true);
     for kind in 0..4 {
         let mut streams = (0..LOOKED_AT).filter_map(|index| StreamId::new(4 * index + kind));

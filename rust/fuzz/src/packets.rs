@@ -11,7 +11,7 @@ use crate::world::{
     MOST_PAYLOAD, MOST_ROOM, NUMBERS, PACKETS, Packet, STREAMS, Side, World, pattern,
 };
 use gotsavena::{
-    AckRanges, Endpoint, Fill, Filled, Frame, MIN_FILL, Made, ReceiveFault, Received, SendState,
+    AckRanges, Dir, Fill, Filled, Frame, MIN_FILL, Made, ReceiveFault, Received, SendState,
     StreamId, Taken, Token, frames, last_stream, put,
 };
 
@@ -495,20 +495,109 @@ pub fn receive_pieces(w: &mut World<'_>, at: usize) {
     receive(w, at, number, &out[..end], false);
 }
 
-/// A PING under each of many numbers.
+/// A PING under each of many numbers, that rise or fall.
 pub fn receive_numbers(w: &mut World<'_>, at: usize) {
-    let first = w.input.number();
-    let step = w.input.byte();
+    let mut number = w.input.number();
+    let how = w.input.byte();
     let count = w.input.byte();
+    let step = if how & 0x80 != 0 {
+        (how & 0x7f).wrapping_neg()
+    } else {
+        how
+    };
     w.was_hostile();
     let s = &mut w.sides[at];
     let mut taken = 0_u64;
-    for place in 0..count {
-        let number = first.wrapping_add(place * step);
-        let answer = s.insist(|end| answer_of(end.receive(number, &[1])));
-        taken += u64::from(answer.is_ok());
+    for _ in 0..count {
+        if s.insist(|end| answer_of(end.receive(number, &[1]))).is_ok() {
+            let again = code(&answer_of(s.end.receive(number, &[1])));
+            assert!(
+                again == DUPLICATE || again == TOO_OLD,
+                "a number counts once"
+            );
+            taken += 1;
+        }
+        number = number.wrapping_add(step);
     }
     w.mix(taken);
+}
+
+/// Receives a frame whose verdict is known: none, or a close with a code.
+fn receive_judged(w: &mut World<'_>, at: usize, number: u64, frame: &Frame<'_>, wanted: u64) {
+    let mut out = [0; 64];
+    let len = put(frame, &mut out).expect("a frame at a limit");
+    w.was_hostile();
+    let s = &mut w.sides[at];
+    let was_open = !s.is_closed();
+    let answer = s.insist(|end| answer_of(end.receive(number, &out[..len])));
+    let status = code(&answer);
+    w.digest.mix(status);
+    if !was_open || [INVALID, DUPLICATE, TOO_OLD].contains(&status) {
+        return;
+    }
+    let closing = s.end.closing().map_or(0, |closing| closing.code);
+    let is_right = closing == wanted && (status == PROTOCOL_ERROR) == (wanted != 0);
+    assert!(is_right, "what comes at a limit, and one beyond it");
+}
+
+/// The last byte that a stream's limit and the connection's permit, or the one behind it, by a STREAM frame or a RESET_STREAM.
+pub fn receive_at_limit(w: &mut World<'_>, at: usize) {
+    const FLOW_CONTROL_ERROR: u64 = 3;
+    let number = w.input.number();
+    let stream = StreamId::new(w.input.number());
+    let how = w.input.byte();
+    let end = &w.sides[at].end;
+    let half = stream.and_then(|stream| Some((stream, end.report(stream)?.recv?)));
+    let Some((stream, half)) = half.filter(|(_, half)| half.final_size.is_none()) else {
+        return;
+    };
+    let most = half.highest + (end.granted() - end.spent());
+    let final_size = half.limit.min(most) + (how & 1);
+    if final_size == 0 || final_size >= NUMBERS {
+        return;
+    }
+    let offset = final_size - 1;
+    let bytes = [pattern(1 - at, stream.value(), offset)];
+    let frame = if how & 2 == 0 {
+        Frame::Stream {
+            stream,
+            offset,
+            fin: false,
+            bytes: &bytes,
+        }
+    } else {
+        Frame::ResetStream {
+            stream,
+            code: 0,
+            final_size,
+        }
+    };
+    let wanted = if how & 1 == 0 { 0 } else { FLOW_CONTROL_ERROR };
+    receive_judged(w, at, number, &frame, wanted);
+}
+
+/// The last stream that the count permits, or the one behind it.
+pub fn receive_at_count(w: &mut World<'_>, at: usize) {
+    const STREAM_LIMIT_ERROR: u64 = 4;
+    let number = w.input.number();
+    let how = w.input.byte();
+    let s = &w.sides[at];
+    let dir = if how & 2 == 0 { Dir::Bidi } else { Dir::Uni };
+    let count = s.end.granted_streams(dir) + (how & 1);
+    let stream = count
+        .checked_sub(1)
+        .and_then(|index| StreamId::from_parts(s.role.peer(), dir, index));
+    let Some(stream) = stream.filter(|&stream| s.end.report(stream).is_none()) else {
+        return;
+    };
+    let frame = Frame::Stream {
+        stream,
+        offset: 0,
+        fin: false,
+        bytes: &[],
+    };
+    let wanted = if how & 1 == 0 { 0 } else { STREAM_LIMIT_ERROR };
+    receive_judged(w, at, number, &frame, wanted);
 }
 
 /// Many packets with a byte of a stream each, of which none comes. Seldom very many, since that takes long.
@@ -547,11 +636,7 @@ fn make_with_a_byte(s: &mut Side, number: u64) -> Answer<Made> {
     let written = sending.map_or(0, |report| report.written);
     let byte = pattern(s.name, number, written);
     let _ = s.insist(|end| end.write(stream, &[byte]).map_err(|fault| fault.number()));
-    let mut out = [0; 128];
-    s.insist(|end| {
-        let made = end.make_packet(&mut out).map_err(|fault| fault.number())?;
-        made.ok_or(NONE)
-    })
+    make_one(s, &mut [0; 128])
 }
 
 /// Numbers are claimed, and any packet is declared lost.
@@ -594,11 +679,8 @@ pub fn join(w: &mut World<'_>, at: usize) {
     let follows =
         before.epoch == token.epoch && token.first > 0 && before.number == token.first - 1;
     let both = before.and(token);
-    let wanted = Token {
-        epoch: token.epoch,
-        first: before.first,
-        number: token.number,
-    };
+    let first = before.first;
+    let wanted = Token { first, ..token };
     assert_eq!(both, follows.then_some(wanted), "tokens that join");
     s.joined = both.unwrap_or(token);
     w.digest.mix(if follows { OK } else { NONE });
@@ -622,17 +704,24 @@ pub fn join(w: &mut World<'_>, at: usize) {
     w.mix(status);
 }
 
-/// Each side makes a packet, and the other one gets it.
-fn exchange(w: &mut World<'_>, room: usize, tells: bool) -> bool {
+fn make_one(s: &mut Side, out: &mut [u8]) -> Answer<Made> {
+    s.insist(|end| {
+        let made = end.make_packet(out).map_err(|fault| fault.number())?;
+        made.ok_or(NONE)
+    })
+}
+
+/// Each side makes so many packets, and the other one gets them.
+fn exchange(w: &mut World<'_>, room: usize, tells: bool, most: u64) -> bool {
     let mut any = false;
+    let mut out = vec![0; room];
     for at in [0, 1] {
-        let mut out = vec![0; room];
-        let answer = w.sides[at].insist(|end: &mut Endpoint| {
-            let made = end.make_packet(&mut out).map_err(|fault| fault.number())?;
-            made.ok_or(NONE)
-        });
-        w.mix_code(&answer);
-        if let Ok(made) = answer {
+        for _ in 0..most {
+            let answer = make_one(&mut w.sides[at], &mut out);
+            w.mix_code(&answer);
+            let Ok(made) = answer else {
+                break;
+            };
             any = true;
             w.mix_len(made.len);
             receive(w, 1 - at, made.number, &out[..made.len], tells);
@@ -644,8 +733,8 @@ fn exchange(w: &mut World<'_>, room: usize, tells: bool) -> bool {
 pub fn carry(w: &mut World<'_>, at: usize) {
     let how = w.input.byte();
     let room = 128 + 508 * (how >> 3) as usize; // at most 15,876
-    for _ in 0..=how & 3 {
-        exchange(w, room, how & 4 != 0);
+    for most in 1..=1 + (how & 3) {
+        exchange(w, room, how & 4 != 0, most);
     }
     look(w, at);
     look(w, 1 - at);
@@ -699,7 +788,7 @@ pub fn settle(w: &mut World<'_>) {
     for _ in 0..ROUNDS {
         read_all(w, 0);
         read_all(w, 1);
-        any = exchange(w, MOST_ROOM, false);
+        any = exchange(w, MOST_ROOM, true, 2);
         if !any {
             break;
         }

@@ -252,24 +252,15 @@ fn read_at(w: &mut World<'_>, at: usize, stream: StreamId, size: usize) {
     if into.is_empty() {
         return;
     }
-    assert_eq!(
-        (status, with),
-        (seen, seen_code),
-        "a look answers as a read"
-    );
+    let is_same = (status, with) == (seen, seen_code);
+    assert!(is_same, "a look answers as a read");
     if status != OK {
         return;
     }
-    assert_eq!(
-        count,
-        all.min(into.len()),
-        "as many bytes are read as are there"
-    );
-    assert_eq!(
-        read_count(s, stream),
-        before + count as u64,
-        "what was read is counted"
-    );
+    let is_all = count == all.min(into.len());
+    assert!(is_all, "as many bytes are read as are there");
+    let is_counted = read_count(s, stream) == before + count as u64;
+    assert!(is_counted, "what was read is counted");
     let is_right = s.is_foreign || has_pattern(1 - s.name, stream.value(), before, &into[..count]);
     assert!(is_right, "the bytes of a stream that are read");
 }

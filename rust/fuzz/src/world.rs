@@ -4,6 +4,7 @@ use crate::codes::{Answer, NO_MEMORY, code};
 use crate::input::Input;
 use crate::looks::look_at_all;
 use crate::memory::{self, Memory};
+use crate::seen::Seen;
 use gotsavena::{Closer, Endpoint, Role, StreamId, Token};
 
 pub const PACKETS: usize = 16;
@@ -42,6 +43,7 @@ pub struct Side {
     pub taken: u64,
     pub next_number: u64,
     pub joined: Token,
+    pub seen: [Seen; STREAMS],
     /// Which events came of a stream, a bit for each kind.
     pub news: [u16; STREAMS],
 }
@@ -72,6 +74,13 @@ pub fn fold(hash: &mut u64, value: u64) {
 }
 
 impl Digest {
+    pub fn new() -> Digest {
+        Digest {
+            value: 0,
+            is_compared: true,
+        }
+    }
+
     pub fn mix(&mut self, value: impl Into<u64>) {
         if self.is_compared {
             fold(&mut self.value, value.into());
