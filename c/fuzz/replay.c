@@ -1,5 +1,5 @@
-/* Replays inputs without a fuzzer: those of the files that it is given, one on a line, in hex. It prints how many they were and a digest of
- * all answers; with --each first the digest of each input. */
+/* Replays inputs without a fuzzer: those of the files that it is given, one on a line, in hex, beside lines that begin with #. It prints how
+ * many they were and a digest of all answers; with --each first the digest of each input. */
 #include <stdio.h>
 #include <string.h>
 
@@ -26,7 +26,8 @@ int main(int count, char **names) {
       perror(names[i]);
       return 1;
     }
-    for (; fgets(line, sizeof line, file) != NULL; inputs++) {
+    for (; fgets(line, sizeof line, file) != NULL; inputs += line[0] != '#') {
+      if (line[0] == '#') continue;
       uint64_t digest = run(bytes, bytes_of(line, bytes));
       if (each) printf("%d %016llx\n", inputs, (unsigned long long)digest);
       all = (all ^ digest) * UINT64_C(0x100000001b3);

@@ -69,10 +69,11 @@ else
   echo 'skipped: the defaults of the Rust crate (no cargo)'
 fi
 # The kept inputs of the fuzzer: the Rust crate gives the same answers.
-plays_inputs() { timeout 300 "$room/replay" "$root/c/fuzz/inputs.txt" >"$room/replayed"; }
+inputs=("$root/c/fuzz/inputs.txt" "$root/c/fuzz/by_hand.txt")
+plays_inputs() { timeout 300 "$room/replay" "${inputs[@]}" >"$room/replayed"; }
 try 'the inputs of c/fuzz' plays_inputs
 if "$root/c/has-cargo" >/dev/null 2>&1; then
-  answers_as_rust() { cargo run -q --offline --manifest-path "$root/rust/Cargo.toml" -p gotsavena-fuzz -- "$root/c/fuzz/inputs.txt" | cmp - "$room/replayed"; }
+  answers_as_rust() { cargo run -q --offline --manifest-path "$root/rust/Cargo.toml" -p gotsavena-fuzz -- "${inputs[@]}" | cmp - "$room/replayed"; }
   try 'the answers to them are those of the Rust crate' answers_as_rust
 else
   echo 'skipped: the answers of the Rust crate (no cargo)'

@@ -1,5 +1,5 @@
-//! Replays inputs without a fuzzer: those of the files that it is given, one on a line, in hex. It prints how many they were and a digest of all
-//! answers, which is that of the C library's target; with `--each` first the digest of each input.
+//! Replays inputs without a fuzzer: those of the files that it is given, one on a line, in hex, beside lines that begin with #. It prints
+//! how many they were and a digest of all answers, which is that of the C library's target; with `--each` first the digest of each input.
 
 use std::env::args;
 use std::fs::read_to_string;
@@ -27,7 +27,7 @@ fn main() -> ExitCode {
                 return ExitCode::FAILURE;
             }
         };
-        for line in lines.lines() {
+        for line in lines.lines().filter(|line| !line.starts_with('#')) {
             let Some(bytes) = bytes_of(line) else {
                 eprintln!("{name}: a line that isn't hex: {line}");
                 return ExitCode::FAILURE;
