@@ -90,7 +90,8 @@ static size_t take_ack(world *w, uint8_t *out, size_t room) {
   gv_range ranges[MOST_RANGES + 1];
   size_t written = 0, len = 0;
   size_t count = take_byte(&w->in) % (MOST_RANGES + 2);
-  uint64_t above = take_number(&w->in);
+  uint64_t largest = take_number(&w->in);
+  uint64_t above = largest;
   for (size_t i = 0; i < count; i++) {
     uint64_t length = take_byte(&w->in);
     uint64_t gap = take_byte(&w->in);
@@ -98,7 +99,7 @@ static size_t take_ack(world *w, uint8_t *out, size_t room) {
     ranges[i].smallest = above - length;
     above = above - length - gap - 2;
   }
-  gv_status status = gv_put_ack(ranges, count, 0, out, room, &written, &len);
+  gv_status status = gv_put_ack(ranges, count, largest, out, room, &written, &len);
   mix(w, status);
   if (status != GV_OK) return 0;
   check(written > 0 && written <= count && count <= MOST_RANGES && len > 0 && len <= room, "ranges are written");

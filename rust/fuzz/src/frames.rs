@@ -183,7 +183,8 @@ impl Fields {
 /// An ACK of ranges: the highest first, each so long, and so far below the one before.
 fn take_ack(w: &mut World<'_>, out: &mut [u8]) -> usize {
     let count = w.input.byte() as usize % (MOST_RANGES + 2);
-    let mut above = w.input.number();
+    let largest = w.input.number();
+    let mut above = largest;
     let mut ranges = Vec::new();
     for _ in 0..count {
         let length = w.input.byte();
@@ -192,7 +193,7 @@ fn take_ack(w: &mut World<'_>, out: &mut [u8]) -> usize {
         ranges.push((smallest, above));
         above = smallest.wrapping_sub(gap + 2);
     }
-    let written = put_pairs(&ranges, out);
+    let written = put_pairs(&ranges, largest, out);
     w.mix_code(&written);
     let Ok((some, len)) = written else {
         return 0;
@@ -202,12 +203,8 @@ fn take_ack(w: &mut World<'_>, out: &mut [u8]) -> usize {
     len
 }
 
-fn put_pairs(pairs: &[(u64, u64)], out: &mut [u8]) -> Answer<(usize, usize)> {
-    let ranges: Vec<_> = pairs
-        .iter()
-        .map(|&(smallest, largest)| smallest..largest.wrapping_add(1))
-        .collect();
-    put_ack(&ranges, out).map_err(|fault| fault.number())
+fn put_pairs(pairs: &[(u64, u64)], delay: u64, out: &mut [u8]) -> Answer<(usize, usize)> {
+    put_ack(pairs, delay, out).map_err(|fault| fault.number())
 }
 
 /// Frames of a payload for the other side: eight at most, up to the first that can't be written.
@@ -240,7 +237,7 @@ pub fn compose(w: &mut World<'_>, sender: usize) -> Vec<u8> {
 }
 
 /// The ranges of an ACK fall, and those at its front, written, are read again.
-fn check_ack(largest: u64, ranges: &[u8]) {
+fn check_ack(largest: u64, delay: u64, ranges: &[u8]) {
     let all: Vec<_> = AckRanges::new(largest, ranges)
         .expect("an ACK that was read")
         .collect();
@@ -259,7 +256,7 @@ fn check_ack(largest: u64, ranges: &[u8]) {
     );
     let some = &all[..all.len().min(MOST_RANGES)];
     let mut out = vec![0; (4 * ranges.len() + 24).min(32 * MOST_RANGES)];
-    let (written, len) = put_pairs(some, &mut out).expect("an ACK is written");
+    let (written, len) = put_pairs(some, delay, &mut out).expect("an ACK is written");
     let Some(Ok(placed)) = frames(&out[..len]).next() else {
         panic!("it is read");
     };
@@ -300,7 +297,7 @@ fn check_frame(frame: &Frame<'_>) {
                 (other, other_delay, other_ecn),
                 "an ACK"
             );
-            check_ack(*largest, ranges);
+            check_ack(*largest, *delay, ranges);
         }
         (first, second) => assert_eq!(first, second, "it is read as the same"),
     }

@@ -394,11 +394,7 @@ pub fn note_closed(w: &mut World<'_>, at: usize) {
     } else {
         CloseKind::Application
     };
-    let close = NotedClose {
-        by: closer(how),
-        kind,
-        code,
-    };
+    let close = NotedClose::new(closer(how), kind, code);
     let s = &mut w.sides[at];
     let was_open = !s.is_closed();
     s.call(|end| end.note_closed(close));
