@@ -830,7 +830,7 @@ GV_API gv_status gv_granted_streams(const gv_endpoint *end, gv_dir dir, uint64_t
 GV_API gv_status gv_stored(const gv_endpoint *end, uint64_t *count);
 
 /** Into how many runs the received offsets fall, on all streams whose end wasn't read and that weren't reset: one for each with some, and
- * one more for each gap. A run takes at most 32 bytes, also on a stream that was stopped, where no window bounds them. So watch it, and
+ * one more for each gap. A run takes at most 33 bytes, also on a stream that was stopped, where no window bounds them. So watch it, and
  * close a connection whose number gets too great (section 2.2). Constant time. */
 GV_API gv_status gv_noted(const gv_endpoint *end, uint64_t *count);
 

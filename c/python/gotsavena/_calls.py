@@ -641,7 +641,7 @@ class Calls:
 
     def noted(self) -> int:
         """Into how many runs the received offsets fall, on all streams whose end wasn't read and that weren't reset: one for each with
-        some, and one more for each gap. A run takes at most 32 bytes, also on a stream that was stopped, where no window bounds them. So
+        some, and one more for each gap. A run takes at most 33 bytes, also on a stream that was stopped, where no window bounds them. So
         watch it, and close a connection whose number gets too great (section 2.2). Constant time.
 
         >>> frames_of_bytes = [Frame(FrameKind.STREAM, stream=0, offset=at, data=b"x") for at in (0, 2)]

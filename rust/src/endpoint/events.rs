@@ -20,7 +20,7 @@ impl Endpoint {
     /// Call it after each call that received something, and after reads, writes, resets and changed settings, until it returns `None`. An
     /// application may also begin late, or never: all conditions that still hold are reported then.
     ///
-    /// Reported events cost a bit for each stream and kind, up to the highest such stream of its type, and some 3 KB. An endpoint that is
+    /// Reported events cost a bit for each stream and kind, up to the highest such stream of its type, and 3.7 KB. An endpoint that is
     /// never asked only notes which streams had a write cut short, so that one who begins late doesn't wait in vain.
     ///
     /// ```
