@@ -1,5 +1,5 @@
--- Of public contracts.
--- Which events a script may name.
+-- Trusted.
+-- Which events a script may name. The whole file is ours: RFC 9000 knows no scripts, and numbers are bounded by its section 16.
 use Rattle.std.specs.Prelude.{Bool, true, ◌&&◌, nat_le, length}
 use Rattle.qs_ranges.specs.Numbers.{MAX_VARINT}
 use Rattle.qs_calls.specs.declared.event.Act.{Act}
@@ -20,5 +20,6 @@ act_fits (Lose k) = nat_le k MAX_VARINT
 act_fits Claim = true
 act_fits (Deliver k) = nat_le k MAX_VARINT
 
+-- of an event the act's
 abbrev pub fits : Event → Bool
 fits event = act_fits event.act

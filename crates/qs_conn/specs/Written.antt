@@ -1,5 +1,5 @@
--- Of public contracts.
--- What a call that makes a packet leaves in its slice (ours: RFC 9000 knows no slices).
+-- Trusted.
+-- What a call that makes a packet leaves in its slice. The whole file is ours: RFC 9000 knows no slices.
 use Rattle.std.specs.Prelude.{◌≡◌, ℕ, List, [], ◌++◌, length, take, drop, Option, None, Some, Result, Ok, Err}
 use Rattle.qs_calls.specs.declared.filling.Filled.{Filled}
 use Rattle.qs_calls.specs.declared.making.Made.{Made}

@@ -9,7 +9,7 @@ ghost use Rattle.qs_machine.specs.Making.{ClosePayload, ClosePayloadBy, close_te
 ghost use Rattle.qs_conn.specs.Layers.{ClosingFits};
 ghost use Rattle.qs_conn.specs.Held.{IsHeldBy};
 ghost use Rattle.qs_machine.specs.Standing.{IsWithinCredit};
-ghost use Rattle.qs_machine.specs.Receiving.{noted_closed};
+ghost use Rattle.qs_machine.specs.EndStep.{EndStep, Stored, Granted, GrantedStreams, Spent, ClosingPayload, NoteClosed};
 
 use crate::by_dir::ByDir;
 use crate::due::Due;
@@ -186,6 +186,7 @@ impl Endpoint {
     #[tactic(auto, using(crate::proofs::Cores::within_counted))]
     pub fn stored(&self) -> u64
         ensures exact { result ≡ all_stored self.now }
+        ensures call { EndStep self.now Stored result self.now }
         ensures within { IsWithinCredit self.now }
     {
         let _granted = self.core.limits.granted;
@@ -208,7 +209,8 @@ impl Endpoint {
 
     /// The connection limit granted to the peer (RFC 9000, section 4.1).
     pub fn granted(&self) -> u64
-        ensures { result ≡ self.now.granted }
+        ensures exact { result ≡ self.now.granted }
+        ensures call { EndStep self.now Granted result self.now }
     {
         self.core.limits.granted
     }
@@ -216,14 +218,16 @@ impl Endpoint {
     /// How many streams of a direction the peer may open: the grant, and one more for each of its streams that ended, up to the lifetime's
     /// count, and no fewer than before (RFC 9000, section 4.6). It takes no memory.
     pub fn granted_streams(&self, dir: Dir) -> u64
-        ensures { result ≡ granted_streams self.now dir }
+        ensures exact { result ≡ granted_streams self.now dir }
+        ensures call { EndStep self.now (GrantedStreams dir) result self.now }
     {
         self.core.limits.granted_streams.of(dir)
     }
 
     /// The sum of the highest offsets of all streams, which the connection limit bounds.
     pub fn spent(&self) -> u64
-        ensures { result ≡ spent self.now }
+        ensures exact { result ≡ spent self.now }
+        ensures call { EndStep self.now Spent result self.now }
     {
         let _granted = self.core.limits.granted;
         self.core.recvs.tally().spent
@@ -232,7 +236,8 @@ impl Endpoint {
     /// Writes the payload for this endpoint's own close: a CONNECTION_CLOSE with an empty reason (RFC 9000, section 10.2). Returns its
     /// length. `None` if it didn't close, or if it doesn't fit; then nothing is written.
     pub fn close_payload(&self, out: &mut [u8]) -> Option<usize>
-        ensures { ClosePayload self.now out.old result out.new }
+        ensures step { ClosePayload self.now out.old result out.new }
+        ensures call { EndStep self.now (ClosingPayload out.old) (result, out.new) self.now }
     {
         let Some(Closed::ByUs(closing)) = self.closed else {
             return None;
@@ -318,7 +323,7 @@ impl Endpoint {
     /// and `take_frame` return it again: the peer's close by its code, and its own as a closing of frame type 0 at place 0. An endpoint
     /// that closed before stays as it is. It takes no memory.
     pub fn note_closed(&mut self, close: NotedClose)
-        ensures { self.new ≡ noted_closed close self.old }
+        ensures { EndStep self.old (NoteClosed close) tt self.new }
     {
         if self.closed.is_some() {
             return;

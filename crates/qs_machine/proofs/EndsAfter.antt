@@ -8,7 +8,7 @@ use Rattle.qs_wire.specs.declared.stream_id.Dir.TheVariants.{Bidi, Uni}
 use Rattle.qs_recv.specs.Lane.{RecvLane, new_lane as new_recv_lane, check_stream, check_reset, take_stream, take_reset, raise}
 use Rattle.qs_recv.specs.declared.credit.Share.TheVariants.{Half}
 use Rattle.qs_recv.specs.Lawful.{IsLawful}
-use Rattle.qs_send.specs.Lane.{SendLane, new_lane as new_send_lane, reset_refusal, acked_lane, first_code, stop_taken, reset_acked_lane, allow_lane}
+use Rattle.qs_send.specs.Lane.{SendLane, is_whole as send_whole, new_lane as new_send_lane, reset_refusal, acked_lane, first_code, stop_taken, reset_acked_lane, allow_lane}
 use Rattle.qs_send.specs.Records.{IsCarried, without_first}
 use Rattle.qs_send.specs.declared.parts.Chunk.{Chunk}
 use Rattle.qs_send.specs.declared.parts.SendFault.{SendFault}
@@ -27,10 +27,11 @@ use Rattle.qs_machine.specs.Seen.{Seen, Ack, Stream, Control}
 use Rattle.qs_machine.specs.Verdicts.{verdict, or_new}
 use Rattle.qs_machine.specs.FrameStep.{frame_taken, item_taken, AckedPiece, held, without_piece, named, acks, first_acked, piece_acked, item_acked}
 use Rattle.qs_machine.specs.Standing.{IsInCredit, CountsStand, HasLawfulLane}
-use Rattle.qs_machine.specs.Repeats.{IsWritten, WasWritten, SentWasWritten}
+use Rattle.qs_machine.specs.Repeats.{IsWritten, WasBrokenOff, WasWritten, SentWasWritten}
 use Rattle.std.specs.List.{AllByRecursion}
 use Rattle.qs_machine.proofs.Pieces.{All_more, all_named}
 use Rattle.qs_machine.proofs.EndedHalves.{RecvStays, SendStays, reset_acked_keeps, whole_acked, acked_keeps}
+use Rattle.qs_machine.proofs.HalvesTold.{TellsOn, tells_same, tells_twice, tells_stopped, tells_acked, tells_reset_acked}
 use Rattle.qs_machine.proofs.Counts.{counts_stand}
 use Rattle.qs_machine.proofs.CallsSound.{sound_opened}
 use Rattle.qs_machine.proofs.Taken.{stream_checked, reset_checked}
@@ -46,26 +47,42 @@ pub record HalfAfter (l m : SendLane) : Type 0 where
   pub written : l.written ≤ m.written
   pub refused : is_some (reset_refusal l) ≡ true → is_some (reset_refusal m) ≡ true
   pub stopped : is_some l.stopped ≡ true → is_some m.stopped ≡ true
+  pub broken : is_some l.was_reset ≡ true → is_some m.was_reset ≡ true
   pub ended : SendStays l m
+  pub told : TellsOn l m
 
 pub half_same : (l : SendLane) → HalfAfter l l
-half_same l = record { limit = omega arith; written = omega arith; refused = λ is. is; stopped = λ is. is; ended = λ is. is }
+half_same l = record { limit = omega arith; written = omega arith; refused = λ is. is; stopped = λ is. is; broken = λ is. is; ended = λ is. is; told = tells_same l }
 
 pub half_twice : (l m k : SendLane) → HalfAfter l m → HalfAfter m k → HalfAfter l k
-half_twice l m k a b = record { limit = omega (arith, a.limit, b.limit); written = omega (arith, a.written, b.written); refused = λ is. b.refused (a.refused is); stopped = λ is. b.stopped (a.stopped is); ended = λ is. b.ended (a.ended is) }
+half_twice l m k a b =
+    record {
+      limit = omega (arith, a.limit, b.limit);
+      written = omega (arith, a.written, b.written);
+      refused = λ is. b.refused (a.refused is);
+      stopped = λ is. b.stopped (a.stopped is);
+      broken = λ is. b.broken (a.broken is);
+      ended = λ is. b.ended (a.ended is);
+      told = tells_twice l m k a.told b.told;
+    }
 
 pub has_code : (o : Option ℕ) (code : ℕ) → is_some (first_code o code) ≡ true
 has_code o code = grind arith
 
 half_stopped : (answers : Bool) (l : SendLane) (code : ℕ) → HalfAfter l (stop_taken answers l code)
-half_stopped answers l code = grind arith
+half_stopped answers l code =
+    record { limit = grind arith; written = grind arith; refused = λ is. grind arith; stopped = λ is. grind arith; broken = λ is. grind arith; ended = λ is. grind arith; told = tells_stopped answers code l }
 
 refused_more : (a b c : Bool) → (b ≡ true → c ≡ true) → is_some {T = SendFault} (cond a (Some WasReset) (cond b (Some Finished) None)) ≡ true → is_some {T = SendFault} (cond a (Some WasReset) (cond c (Some Finished) None)) ≡ true
 refused_more a b c more is = grind arith
 
 -- what is acknowledged twice stays whole, where it was written
 half_acked : (l : SendLane) (c : Chunk) → c.offset + c.len ≤ l.written → HalfAfter l (acked_lane l c)
-half_acked l c within = grind (arith, nat_tests, refused_more, whole_acked, acked_keeps)
+half_acked l c within =
+    record { limit = omega arith; written = omega arith; refused = refused_more (is_some l.was_reset) (send_whole l) (send_whole (acked_lane l c)) (whole_acked l c within); stopped = λ is. is; broken = λ is. is; ended = acked_keeps l c within; told = tells_acked l c within }
+
+half_reset_acked : (l : SendLane) → is_some l.was_reset ≡ true → HalfAfter l (reset_acked_lane l)
+half_reset_acked l broken = record { limit = omega arith; written = omega arith; refused = λ is. is; stopped = λ is. is; broken = λ is. is; ended = reset_acked_keeps l; told = tells_reset_acked l broken }
 
 -- Ends
 
@@ -204,27 +221,31 @@ after_without false k e =
 after_acked_items : (e : End) (a : AckedItems) → IsAfter e (record e { acked = a })
 after_acked_items e a = record { role = refl; settings = refl; tuning = refl; next = omega arith; credit = omega arith; bidi = omega arith; uni = omega arith; bidi_granted = omega arith; uni_granted = omega arith; counts = λ h. h; recvs = recvs_same e.recvs; sends = sends_same e.sends; bare = λ late k is. is; carried = λ late p is. is }
 
-after_item_acked : (i : Item) (e : End) → IsAfter e (item_acked i e)
-after_item_acked (ResetStream n code size) e = after_send n reset_acked_lane e (λ l is. (record { limit = omega arith; written = omega arith; refused = λ is. is; stopped = λ is. is; ended = reset_acked_keeps l }))
-after_item_acked (MaxStreams Uni m) e = after_acked_items e _
-after_item_acked (StreamsBlocked Uni m) e = after_acked_items e _
-after_item_acked i e = after_acked_items e _
+after_item_acked : (i : Item) (e : End) → WasWritten e.sends (Told i) → IsAfter e (item_acked i e)
+after_item_acked (ResetStream n code size) e broken = after_send n reset_acked_lane e (λ l is. half_reset_acked l (subst WasBrokenOff is broken))
+after_item_acked (MaxStreams Uni m) e written = after_acked_items e _
+after_item_acked (StreamsBlocked Uni m) e written = after_acked_items e _
+after_item_acked i e written = after_acked_items e _
 
 after_piece : (p : Piece) (e : End) → WasWritten e.sends p → IsAfter e (piece_acked p e)
 after_piece (Data n c) e written = after_send n (λ l. acked_lane l c) e (λ l is. half_acked l c (subst (λ x. IsWritten x c) is written))
-after_piece (Told i) e written = after_item_acked i e
+after_piece (Told i) e written = after_item_acked i e written
 
 after_first : (a : AckedPiece) (e : End) → WasWritten e.sends a.piece → IsAfter e (first_acked a e)
 after_first a e written =
     let short = without_piece a.late a.number e in
     after_twice e short (first_acked a e) (after_without a.late a.number e) (after_piece a.piece short written)
 
+-- a half has no fewer bytes, and stays reset
+abbrev pub IsLonger : SendLane → SendLane → Type 0
+IsLonger l m = (l.written ≤ m.written) × (is_some l.was_reset ≡ true → is_some m.was_reset ≡ true)
+
 -- what was written stays written, where no half has fewer bytes
-pub written_stays : (R : SendLane → SendLane → Type 0) → ((l m : SendLane) → R l m → l.written ≤ m.written) → (t u : Tables SendLane) → KeptIn R t u → (p : Piece) → WasWritten t p → WasWritten u p
+pub written_stays : (R : SendLane → SendLane → Type 0) → ((l m : SendLane) → R l m → IsLonger l m) → (t u : Tables SendLane) → KeptIn R t u → (p : Piece) → WasWritten t p → WasWritten u p
 written_stays R longer t u kept p h = grind arith
 
-half_longer : (l m : SendLane) → HalfAfter l m → l.written ≤ m.written
-half_longer l m r = r.written
+half_longer : (l m : SendLane) → HalfAfter l m → IsLonger l m
+half_longer l m r = (r.written, r.broken)
 
 pub sent_stays : (a b : End) → IsAfter a b → SentWasWritten a → SentWasWritten b
 sent_stays a b x h late p is = written_stays HalfAfter half_longer a.sends b.sends x.sends p (h late p (x.carried late p is))
@@ -267,7 +288,7 @@ mid_reset n code size e v sound =
     (subst (λ o. IsOk (check_reset (or_new o 0 Half) size)) is (reset_checked e (opened_by_peer n e) n code size v refl)))
 
 pub mid_allow : (n m : ℕ) (e : End) → IsAfter (opened_by_peer n e) (on_send n (λ l. allow_lane l m) (opened_by_peer n e))
-mid_allow n m e = after_send n (λ l. allow_lane l m) (opened_by_peer n e) (λ l is. (record { limit = omega arith; written = omega arith; refused = λ is. is; stopped = λ is. is; ended = λ is. is }))
+mid_allow n m e = after_send n (λ l. allow_lane l m) (opened_by_peer n e) (λ l is. (record { limit = omega arith; written = omega arith; refused = λ is. is; stopped = λ is. is; broken = λ is. is; ended = λ is. is; told = record { code = λ c is. is; reset = λ is. is; finished = λ is. is } }))
 
 pub mid_stop : (answers : Bool) (n code : ℕ) (e : End) → IsAfter (opened_by_peer n e) (on_send n (λ l. stop_taken answers l code) (opened_by_peer n e))
 mid_stop answers n code e = after_send n (λ l. stop_taken answers l code) (opened_by_peer n e) (λ l is. half_stopped answers l code)

@@ -159,7 +159,7 @@ Comes old call e (Acked count ranges) = HearsPeer call
 Comes old call e (Put f) = MayPut old e f
 Comes old call e (Numbered next) = next ≡ old.next + 1
 Comes old call e (Raised limits) = MovesStanding call
-Comes old call e (WasSet x) = set_refusal e x ≡ None
+Comes old call e (WasSet x) = (set_refusal e x ≡ None) × (call ≡ Set x)
 Comes old call e (Shut c) = MovesStanding call
 Comes old call e (Lost k p) = IsCarried e.outstanding p
 Comes old call e c = ⊤
@@ -346,8 +346,8 @@ module _ (old : End) (call : Call) (Q P : End → Type 0) (c : Cases old call Q 
   use_by : {A F : Type 0} (Told : Type 0) (r : Option F) (one : Change) (answer : Result A F) (new : End) → Comes old call old one → Certain r old answer new (Told × (new ≡ settle (changed one old))) → P new
   use_by Told r one answer new comes step = by_refusal (P new) r old answer new _ step (same new) (λ done. edited one new comes done.1)
 
-  set_by : (x : Setting) (answer : Answer (Set x)) (new : End) → SetStep old x answer new → P new
-  set_by x answer new step = if_allowed (P new) (set_refusal old x) old answer new _ step (same new) (λ allowed done. edited (WasSet x) new allowed done.1)
+  set_by : (x : Setting) (answer : Answer (Set x)) (new : End) → call ≡ Set x → SetStep old x answer new → P new
+  set_by x answer new is step = if_allowed (P new) (set_refusal old x) old answer new _ step (same new) (λ allowed done. edited (WasSet x) new (allowed, is) done.1)
 
   claim_by : (answer : Answer Claim) (new : End) → EndStep old Claim answer new → P new
   claim_by answer new step = by_refusal (P new) (claim_refusal old) old answer new _ step (same new) (λ done. subst P (sym done.1) c.claims)
@@ -421,7 +421,7 @@ each_call old (FillIn want room) Q P c answer new step = fill_by old (FillIn wan
 each_call old (Lose k) Q P c answer new step = lose_by old (Lose k) Q P c k old answer new c.stays step
 each_call old Claim Q P c answer new step = claim_by old Claim Q P c answer new step
 each_call old (RaiseLimits p) Q P c answer new step = use_by old (RaiseLimits p) Q P c _ (raise_refusal old p) (Raised p) answer new tt step
-each_call old (Set x) Q P c answer new step = set_by old (Set x) Q P c x answer new step
+each_call old (Set x) Q P c answer new step = set_by old (Set x) Q P c x answer new refl step
 each_call old (NoteClosed close) Q P c answer new step = shut_by old (NoteClosed close) Q P c tt close new step
 each_call old call Q P c answer new step = same old call Q P c new step.1
 

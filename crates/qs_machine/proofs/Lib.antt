@@ -18,6 +18,7 @@ pub mod Ties
 pub mod LanesAgain
 pub mod TablesAfter
 pub mod EndedHalves
+pub mod HalvesTold
 pub mod Counts
 pub mod EndsAfter
 pub mod AcksAgain
@@ -30,6 +31,7 @@ pub mod SmallEndsLaws
 pub mod ExclusionsMaking
 pub mod ExclusionsReceiving
 pub mod ExclusionsOwner
+pub mod ExclusionsOwning
 pub mod SettledLimits
 pub mod OffsetParts
 pub mod Claims
@@ -38,3 +40,5 @@ pub mod Plains
 pub mod AckTokens
 pub mod NewlyTold
 pub mod Foreign
+pub mod Tellings
+pub mod Owning

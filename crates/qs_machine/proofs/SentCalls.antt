@@ -1,5 +1,5 @@
 -- Every call leaves all outstanding data written.
-use Rattle.std.proofs.Common.{◌≡◌, ℕ, nat_eq, ◌++◌, ◌≤◌, Bool, true, false, not, ◌&&◌, List, [], ◌∷◌, take, Option, Some, None, is_some, refl, sym, ◌∙◌, subst, arith, inl, inr}
+use Rattle.std.proofs.Common.{◌≡◌, ℕ, nat_eq, ◌++◌, ◌≤◌, Bool, true, false, not, ◌&&◌, List, [], ◌∷◌, take, Option, Some, None, is_some, refl, sym, ap, ◌∙◌, subst, arith, inl, inr}
 use Rattle.std.specs.Prelude.{cond, Ok}
 use Rattle.std.proofs.lemmas.Option.{same_Some}
 use Rattle.std.proofs.lemmas.Bool.{cond_both}
@@ -28,9 +28,10 @@ use Rattle.qs_calls.specs.declared.settings.Tuning.{Tuning}
 use Rattle.qs_calls.specs.declared.settings.PeerLimits.{PeerLimits}
 use Rattle.qs_calls.specs.declared.settings.SetupFault.{SetupFault}
 use Rattle.qs_calls.specs.Settings.{wide_setup_fault}
-use Rattle.qs_machine.specs.Repeats.{IsWritten, WasWritten, SentWasWritten}
+use Rattle.qs_machine.specs.Due.{IsCurrent}
+use Rattle.qs_machine.specs.Repeats.{IsWritten, WasBrokenOff, WasWritten, SentWasWritten}
 use Rattle.qs_machine.proofs.TablesAfter.{KeptIn, kept_same, kept_updated, kept_open}
-use Rattle.qs_machine.proofs.EndsAfter.{written_stays, carried_without}
+use Rattle.qs_machine.proofs.EndsAfter.{IsLonger, written_stays, carried_without}
 use Rattle.qs_machine.proofs.LostSent.{lost_carried}
 use Rattle.qs_machine.proofs.Carried.{among_push}
 use Rattle.qs_machine.proofs.EveryCall.{Change, changed, Comes, relates, Wanted, Opened, Written, Finished, WasReset, Raised, WasSet, Took, Acked, Put, Numbered, Lost}
@@ -39,12 +40,11 @@ use Rattle.qs_machine.proofs.EveryCall.{Change, changed, Comes, relates, Wanted,
 abbrev Keeps : End → End → Type 0
 Keeps old new = SentWasWritten old → SentWasWritten new
 
--- a half has no fewer bytes
-abbrev IsLonger : SendLane → SendLane → Type 0
-IsLonger l m = l.written ≤ m.written
-
 longer_same : (l : SendLane) → IsLonger l l
-longer_same l = omega arith
+longer_same l = (omega arith, λ is. is)
+
+longer_twice : (l m k : SendLane) → IsLonger l m → IsLonger m k → IsLonger l k
+longer_twice l m k a b = (omega (arith, a.0, b.0), λ is. b.1 (a.1 is))
 
 halves_keep : (t u : Tables SendLane) (m : Records) → KeptIn IsLonger t u → ((p : Piece) → IsCarried m p → WasWritten t p) → (p : Piece) → IsCarried m p → WasWritten u p
 halves_keep t u m kept h p is = written_stays IsLonger (λ x y r. r) t u kept p (h p is)
@@ -55,11 +55,11 @@ keeps_same e h = h
 keeps_twice : (a b c : End) → Keeps a b → Keeps b c → Keeps a c
 keeps_twice a b c x y h = y (x h)
 
-keeps_send : (n : ℕ) (f : SendLane → SendLane) (e : End) → ((l : SendLane) → l.written ≤ (f l).written) → Keeps e (on_send n f e)
+keeps_send : (n : ℕ) (f : SendLane → SendLane) (e : End) → ((l : SendLane) → IsLonger l (f l)) → Keeps e (on_send n f e)
 keeps_send n f e up h late = halves_keep e.sends (updated e.sends n f (lookup e.sends n)) (held late e) (kept_updated IsLonger longer_same e.sends n f (λ l is. up l)) (h late)
 
 keeps_raised : (p : PeerLimits) (e : End) → Keeps e (limits_raised p e)
-keeps_raised p e h late = halves_keep e.sends (limits_raised p e).sends (held late e) (kept_raised IsLonger longer_same (λ l m k r s. omega (arith, r, s)) (λ limit l. omega arith) p e) (h late)
+keeps_raised p e h late = halves_keep e.sends (limits_raised p e).sends (held late e) (kept_raised IsLonger longer_same longer_twice (λ limit l. longer_same l) p e) (h late)
 
 keeps_opens : (n : ℕ) (e : End) → Keeps e (opens n e)
 keeps_opens n e h late =
@@ -95,14 +95,14 @@ unfolding acks
 keeps_acks [] e = keeps_same e
 keeps_acks (p ∷ ps) e = keeps_twice e (first_acked p e) (acks ps (first_acked p e)) (keeps_first p e) (keeps_acks ps (first_acked p e))
 
-reset_written : (code : ℕ) (l : SendLane) → l.written ≤ (reset_lane l code).written
-reset_written code l = cond_both (is_some (reset_refusal l)) l (record l { kept = []; was_reset = Some (record { code = code; size = cond l.fin_sent l.written l.sent_end }) }) (λ m. l.written ≤ m.written) (λ _. omega arith) (λ _. omega arith)
+reset_written : (code : ℕ) (l : SendLane) → IsLonger l (reset_lane l code)
+reset_written code l = (grind arith, λ is. grind arith)
 
-stop_taken_written : (answers : Bool) (code : ℕ) (l : SendLane) → l.written ≤ (stop_taken answers l code).written
-stop_taken_written answers code l = grind arith
+stop_taken_written : (answers : Bool) (code : ℕ) (l : SendLane) → IsLonger l (stop_taken answers l code)
+stop_taken_written answers code l = (grind arith, λ is. grind arith)
 
 -- after an opening a half changes
-opened_send : (n : ℕ) (f : SendLane → SendLane) (e : End) → ((l : SendLane) → l.written ≤ (f l).written) → Keeps e (on_send n f (opened_by_peer n e))
+opened_send : (n : ℕ) (f : SendLane → SendLane) (e : End) → ((l : SendLane) → IsLonger l (f l)) → Keeps e (on_send n f (opened_by_peer n e))
 opened_send n f e up = keeps_twice e (opened_by_peer n e) (on_send n f (opened_by_peer n e)) (keeps_opened n e) (keeps_send n f (opened_by_peer n e) up)
 
 keeps_item : (i : Item) (e : End) → Keeps e (item_taken i e)
@@ -140,6 +140,11 @@ keeps_noted p e written h false q (k, qs, is, a) = go (nat_eq k e.next) (sym (ge
     go true same = so_far (fmap.get e.outstanding e.next) refl (subst (Among q) (sym (same_Some (pieces_so_far e e.next ++ p ∷ []) qs same)) a)
     go false old = h false q (k, qs, old, a)
 
+-- a RESET_STREAM that is due is of a stream that was reset
+item_written : (i : Item) (e : End) → IsCurrent e i → WasWritten (item_put i e).sends (Told i)
+item_written (ResetStream n code size) e (l, there, broken) = subst WasBrokenOff (sym there) (ap is_some broken)
+item_written i e current = tt
+
 keeps_put : (old : End) (f : Seen) (e : End) → MayPut old e f → Keeps e (frame_put f e)
 unfolding frame_put
 keeps_put old (Ack largest ranges) e may = keeps_same e
@@ -149,7 +154,7 @@ keeps_put old (Stream n offset bytes fin) e (l, may) =
     (keeps_noted (Data n (chunk_of offset bytes fin)) (on_send n sent e)
     (written_stays IsLonger (λ x y r. r) e.sends (on_send n sent e).sends (kept_updated IsLonger longer_same e.sends n sent (λ m is. longer_same m)) (Data n (chunk_of offset bytes fin))
     (subst (λ o. IsWritten o (chunk_of offset bytes fin)) (sym may.lane) may.inside)))
-keeps_put old (Control i) e may = keeps_twice e (item_put i e) (noted (Told i) (item_put i e)) (keeps_item_put i e) (keeps_noted (Told i) (item_put i e) tt)
+keeps_put old (Control i) e may = keeps_twice e (item_put i e) (noted (Told i) (item_put i e)) (keeps_item_put i e) (keeps_noted (Told i) (item_put i e) (item_written i e may.1.0))
 keeps_put old _ e may = absurd may
 
 -- a piece that moves to the lost record was written
@@ -162,7 +167,7 @@ keeps_first_lost k p e written h true q is = elim (lost_carried k p e.lost q is)
 pub keeps_change : (old : End) (call : Call) (c : Change) (e : End) → Comes old call e c → Keeps e (changed c e)
 keeps_change old call (Wanted Uni count) e comes = keeps_same e
 keeps_change old call (Opened n) e comes = keeps_opens n e
-keeps_change old call (Written n bytes l) e comes = keeps_send n (λ m. write_lane m bytes) e (λ m. omega arith)
+keeps_change old call (Written n bytes l) e comes = keeps_send n (λ m. write_lane m bytes) e (λ m. (omega arith, λ is. is))
 keeps_change old call (Finished n) e comes = keeps_send n finish_lane e longer_same
 keeps_change old call (WasReset n code) e comes = keeps_send n (λ m. reset_lane m code) e (reset_written code)
 keeps_change old call (Raised p) e comes = keeps_raised p e

@@ -11,6 +11,7 @@ use Rattle.qs_machine.specs.ExclusionsAlone.{NotAlone}
 use Rattle.qs_machine.specs.ExclusionsNews.{NotFound}
 use Rattle.qs_machine.specs.ExclusionsAsking.{NotAsked}
 use Rattle.qs_machine.specs.ExclusionsHeard.{NotHeard}
+use Rattle.qs_machine.specs.ExclusionsOwning.{NotOwnedSo}
 
 pub record Exclusions : Type 0 where
   pub due : NotDue
@@ -24,3 +25,4 @@ pub record Exclusions : Type 0 where
   pub news : NotFound
   pub asking : NotAsked
   pub heard : NotHeard
+  pub owning : NotOwnedSo

@@ -20,6 +20,8 @@ pub mod Reports
 pub mod News
 pub mod Asking
 pub mod Heard
+pub mod Hearing
+pub mod Owning
 pub mod Newly
 pub mod Raising
 pub mod Setting
@@ -46,6 +48,7 @@ pub mod ExclusionsAlone
 pub mod ExclusionsNews
 pub mod ExclusionsAsking
 pub mod ExclusionsHeard
+pub mod ExclusionsOwning
 pub mod Exclusions
 pub mod SettledLimits
 pub mod OffsetParts

@@ -1,11 +1,12 @@
 -- Of laws.
 -- What frames find that took effect and come again.
-use Rattle.std.specs.Prelude.{◌≡◌, ℕ, ◌+◌, ◌≤◌, ⊤, ◌⊎◌, Bool, List, Option, None, Some, Result, Ok, Err}
+use Rattle.std.specs.Prelude.{◌≡◌, ℕ, ◌+◌, ◌≤◌, ⊤, ◌⊎◌, Bool, true, List, Option, None, Some, is_some, Result, Ok, Err}
 use Rattle.qs_wire.specs.Layout.{PlacedValue}
 use Rattle.qs_wire.specs.declared.fault.WireFault.{WireFault}
 use Rattle.qs_send.specs.Lane.{SendLane}
 use Rattle.qs_send.specs.Records.{Among, IsCarried}
 use Rattle.qs_send.specs.declared.parts.Chunk.{Chunk}
+use Rattle.qs_send.specs.declared.piece.Item.TheVariants.{ResetStream}
 use Rattle.qs_send.specs.declared.piece.Piece.{Piece}
 use Rattle.qs_send.specs.declared.piece.Piece.TheVariants.{Data, Told}
 use Rattle.qs_calls.specs.declared.closing.Closing.{Closing}
@@ -23,12 +24,18 @@ abbrev pub IsWritten : Option SendLane → Chunk → Type 0
 IsWritten None c = ⊥
 IsWritten (Some l) c = c.offset + c.len ≤ l.written
 
--- data is of an open stream, and its offsets were written
+-- the half was reset
+abbrev pub WasBrokenOff : Option SendLane → Type 0
+WasBrokenOff None = ⊥
+WasBrokenOff (Some l) = is_some l.was_reset ≡ true
+
+-- data is of an open stream, and its offsets were written; a RESET_STREAM is of one that was reset
 abbrev pub WasWritten : Tables SendLane → Piece → Type 0
 WasWritten t (Data n c) = IsWritten (lookup t n) c
+WasWritten t (Told (ResetStream n code size)) = WasBrokenOff (lookup t n)
 WasWritten t (Told item) = ⊤
 
--- all data was written that outstanding packets carried, or lost ones
+-- all data was written that outstanding packets carried, or lost ones, and each stream was reset of which they told so
 abbrev pub SentWasWritten : End → Type 0
 SentWasWritten e = (late : Bool) (p : Piece) → IsCarried (held late e) p → WasWritten e.sends p
 

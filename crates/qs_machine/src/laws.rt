@@ -6,6 +6,7 @@ ghost use Rattle.qs_machine.specs.Ways.{APayloadIsItsFrames, APayloadIsTakeFrame
 ghost use Rattle.qs_machine.specs.AckOrders.{AStopIsntMoved};
 ghost use Rattle.qs_machine.specs.SettledLimits.{NewEndsSettleLimits, CallsSettleLimits};
 ghost use Rattle.qs_machine.specs.OffsetParts.{OffsetsAreInOnePart};
+ghost use Rattle.qs_machine.specs.Owning.{NoNewsIsLost};
 ghost use Rattle.qs_machine.specs.Examples.{Examples};
 ghost use Rattle.qs_machine.specs.Exclusions.{Exclusions};
 
@@ -116,6 +117,12 @@ pub fn payloads_repeat()
 /// A payload that was processed and comes again changes nothing but which numbers are kept and whether an ACK is due.
 pub fn processed_payloads_repeat()
     ensures { ProcessedPayloadsRepeat }
+{}
+
+/// Of an end to which calls led, whatever is called: what an owner would hear of it hears of still, unless it is over or the end closed. What it
+/// is told is news no more, and no other news goes by it.
+pub fn no_news_is_lost()
+    ensures { NoNewsIsLost }
 {}
 
 /// Decisive steps of small connections, computed by the definitions.

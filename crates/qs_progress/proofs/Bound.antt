@@ -1,7 +1,7 @@
 -- What two ends did and know for good is bounded, by the bytes that were written, the streams that were opened, and what was granted beyond.
 use Rattle.std.proofs.Common.{◌≡◌, ℕ, zero, suc, ◌+◌, ◌*◌, ◌-◌, ◌%◌, ◌<◌, ◌≤◌, Bool, true, false, not, ◌||◌, List, [], ◌∷◌, length, slice_get, sum_by, Option, Some, None, is_some, refl, sym, ap, ◌∙◌, subst, arith, inl, inr, nat_cmp, if◌then◌else◌}
-use Rattle.std.specs.Prelude.{unwrap_or, zip, ◌==◌}
-use Rattle.std.specs.List.{range_with_len, filter}
+use Rattle.std.specs.Prelude.{unwrap_or, ◌==◌}
+use Rattle.std.specs.List.{range_with_len}
 use Rattle.std.specs.FinSet as set
 use Rattle.std.specs.Cmp.{nat_cmp_total, unsigned_tied}
 use Rattle.std.proofs.lemmas.Bool.{true≢false, cond_both}
@@ -24,7 +24,7 @@ use Rattle.qs_calls.specs.declared.event.Side.{Side}
 use Rattle.qs_calls.specs.declared.event.Side.TheVariants.{A, B}
 use Rattle.qs_machine.specs.Tables.{Tables, table, lookup, total}
 use Rattle.qs_machine.specs.Ends.{End, AckedItems, is_uni, is_own, role_bit, peer_type, first_send_limit, first_window}
-use Rattle.qs_machine.specs.Credit.{granted_streams, first_grant, all_taken, ended}
+use Rattle.qs_machine.specs.Credit.{granted_streams, first_grant, all_taken}
 use Rattle.qs_machine.specs.Due.{known_count}
 use Rattle.qs_machine.specs.Seen.{Control}
 use Rattle.qs_machine.specs.Standing.{HasLawfulLane}
@@ -39,7 +39,8 @@ use Rattle.qs_runs.proofs.Clauses.{received_is_below_sent, final_size_is_declare
 use Rattle.qs_runs.proofs.Runs.{run_keeps, opposite, known_counts}
 use Rattle.qs_rest.specs.Resting.{KnowsFirstLimits}
 use Rattle.qs_progress.specs.Score.{one_if, is_done, told_from, sent_marks, got_marks, marks_of, stream_marks, first_count, count_marks, credit_marks, halves, type_marks, score}
-use Rattle.qs_progress.specs.Bound.{written_at, streams_at, beyond_on, most}
+use Rattle.qs_progress.specs.Bound.{streams_at, most}
+use Rattle.qs_progress.proofs.SetBeyond.{length_kept, lookup_at, written_on, beyond_on, peers, lanes_most, lanes_few}
 use Rattle.qs_progress.specs.Outstanding.{IsIn}
 use Rattle.qs_progress.proofs.Sums.{le_same, sum_grows, told_few}
 use Rattle.qs_progress.proofs.Alike.{SendsAlike, slots_same, alike_back}
@@ -108,27 +109,9 @@ pub sum_ones : {X : Type 0} (xs : List X) → sum_by (λ (x : X). 1) xs ≡ leng
 sum_ones [] = refl
 sum_ones {X} (y ∷ xs) = sum_by-cons (λ (x : X). 1) y xs ∙ omega (arith, sum_ones xs)
 
-length_kept : {X Y : Type 0} (xs : List X) (ys : List Y) → ((i : ℕ) → is_some (slice_get xs i) ≡ true → is_some (slice_get ys i) ≡ true) → length xs ≤ length ys
-length_kept [] ys kept = omega arith
-length_kept (x ∷ xs) [] kept = absurd (true≢false (sym (kept 0 refl)))
-length_kept (x ∷ xs) (y ∷ ys) kept = omega (arith, length_kept xs ys (λ i. kept (suc i)))
-
-length_filter : {X : Type 0} (p : X → Bool) (xs : List X) → length (filter p xs) ≤ length xs
-length_filter p [] = omega arith
-length_filter p (x ∷ xs) = cond_both (p x) (x ∷ filter p xs) (filter p xs) (λ ys. length ys ≤ length (x ∷ xs)) (λ _. omega (arith, length_filter p xs)) (λ _. omega (arith, length_filter p xs))
-
-length_zip : {X Y : Type 0} (xs : List X) (ys : List Y) → length (zip xs ys) ≤ length xs
-length_zip [] ys = omega arith
-length_zip (x ∷ xs) [] = omega arith
-length_zip (x ∷ xs) (y ∷ ys) = omega (arith, length_zip xs ys)
-
 -- the stream of a type at an index
 kind_of : (k i : ℕ) → k < 4 → (i * 4 + k) % 4 ≡ k
 kind_of k i lt = omega arith
-
-pub lookup_at : {X : Type 0} (t : Tables X) (k i : ℕ) → k < 4 → lookup t (i * 4 + k) ≡ slice_get (table t k) i
-unfolding lookup
-lookup_at t k i lt = grind (arith, nat_tests)
 
 window_at : (e : End) (k i : ℕ) → k < 4 → first_window e (i * 4 + k) ≡ first_window e k
 window_at e k i lt = grind (arith, nat_tests)
@@ -269,7 +252,7 @@ module _ (a b : Settings) (h : History) (w : World) (ok : WorldOk a b h w) (told
         go (Some r) is = omega (arith, taken_below n r is)
 
     -- of the connection
-    all_taken_few : all_taken there ≤ written_at here
+    all_taken_few : all_taken there ≤ written_on here
     all_taken_few = total_le taken (λ (l : SendLane). l.written) there.recvs here.sends (λ n. go n (lookup there.recvs n) refl)
       where
         go : (n : ℕ) (o : Option RecvLane) → lookup there.recvs n ≡ o → value taken o ≤ bytes n
@@ -390,7 +373,7 @@ module _ (a b : Settings) (h : History) (w : World) (ok : WorldOk a b h w) (told
       → type_marks (seen_as A) k + type_marks (seen_as B) k ≤ 6 * sum_by (λ (l : SendLane). l.written) (table w.a.sends k) + 6 * sum_by (λ (l : SendLane). l.written) (table w.b.sends k) + 17 * length (table w.b.sends k) + 3 * beyond_on w.a k + 3 * beyond_on w.b k
   few_b k lt odd = omega (arith, type_few k lt (λ i. sending_one B (i * 4 + k)) (λ i. stream_few_b (i * 4 + k) (own_b k i lt odd)), all_ones B k lt)
 
-  -- Counts of streams: what ended was opened
+  -- Counts of streams: what the peer opened here is open at it
 
   recvs_few : (s : Side) (k : ℕ) → k < 4 → ((i : ℕ) → is_own (end_of w s) (i * 4 + k) ≡ true) → length (table (end_of w (other s)).recvs k) ≤ length (table (end_of w s).sends k)
   recvs_few s k lt own =
@@ -401,11 +384,8 @@ module _ (a b : Settings) (h : History) (w : World) (ok : WorldOk a b h w) (told
       opened A n own is = is_open_at_initiator a b h w ok B n (inr is) own
       opened B n own is = is_open_at_initiator a b h w ok A n (inr is) own
 
-  ended_bidi : (e : End) (k : ℕ) → peer_type e Bidi ≡ k → ended e Bidi ≤ length (table e.recvs k)
-  ended_bidi e k is = grind (arith, nat_tests, length_filter, length_zip)
-
-  ended_uni : (e : End) (k : ℕ) → peer_type e Uni ≡ k → ended e Uni ≤ length (table e.recvs k)
-  ended_uni e k is = grind (arith, nat_tests, length_filter)
+  peers_are : (e : End) (d : Dir) (k : ℕ) → peer_type e d ≡ k → peers e d ≡ length (table e.recvs k)
+  peers_are e d k is = λ j. length (table e.recvs (is j))
 
   streams_a : streams_at w.a ≡ length (table w.a.sends 0) + length (table w.a.sends 2)
   streams_a = λ j. length (table w.a.sends (role_bit (role_a j))) + length (table w.a.sends (2 + role_bit (role_a j)))
@@ -413,25 +393,25 @@ module _ (a b : Settings) (h : History) (w : World) (ok : WorldOk a b h w) (told
   streams_b : streams_at w.b ≡ length (table w.b.sends 1) + length (table w.b.sends 3)
   streams_b = λ j. length (table w.b.sends (role_bit (role_b j))) + length (table w.b.sends (2 + role_bit (role_b j)))
 
-  -- what of the peer's streams ended at an end
-  ended_at_b : ended w.b Bidi + ended w.b Uni ≤ streams_at w.a
-  ended_at_b =
+  -- how many of the peer's streams are open at an end
+  peers_at_b : peers w.b Bidi + peers w.b Uni ≤ streams_at w.a
+  peers_at_b =
       omega (
         arith,
         streams_a,
-        ended_bidi w.b 0 (λ j. 1 - role_bit (role_b j)),
-        ended_uni w.b 2 (λ j. 3 - role_bit (role_b j)),
+        peers_are w.b Bidi 0 (λ j. 1 - role_bit (role_b j)),
+        peers_are w.b Uni 2 (λ j. 3 - role_bit (role_b j)),
         recvs_few A 0 (omega arith) (λ i. own_a 0 i (omega arith) refl),
         recvs_few A 2 (omega arith) (λ i. own_a 2 i (omega arith) refl),
       )
 
-  ended_at_a : ended w.a Bidi + ended w.a Uni ≤ streams_at w.b
-  ended_at_a =
+  peers_at_a : peers w.a Bidi + peers w.a Uni ≤ streams_at w.b
+  peers_at_a =
       omega (
         arith,
         streams_b,
-        ended_bidi w.a 1 (λ j. 1 - role_bit (role_a j)),
-        ended_uni w.a 3 (λ j. 3 - role_bit (role_a j)),
+        peers_are w.a Bidi 1 (λ j. 1 - role_bit (role_a j)),
+        peers_are w.a Uni 3 (λ j. 3 - role_bit (role_a j)),
         recvs_few B 1 (omega arith) (λ i. own_b 1 i (omega arith) refl),
         recvs_few B 3 (omega arith) (λ i. own_b 3 i (omega arith) refl),
       )
@@ -444,7 +424,7 @@ module _ (a b : Settings) (h : History) (w : World) (ok : WorldOk a b h w) (told
   abbrev all_types : End → ℕ
   all_types e = type_marks e 0 + type_marks e 1 + type_marks e 2 + type_marks e 3
 
-  types_few : all_types (seen_as A) + all_types (seen_as B) ≤ 6 * (written_at w.a + written_at w.b) + 17 * (streams_at w.a + streams_at w.b) + 3 * (lanes_beyond w.a + lanes_beyond w.b)
+  types_few : all_types (seen_as A) + all_types (seen_as B) ≤ 6 * (written_on w.a + written_on w.b) + 17 * (streams_at w.a + streams_at w.b) + 3 * (lanes_beyond w.a + lanes_beyond w.b)
   unfolding total
   types_few =
       let zeroth = few_a 0 (omega arith) refl in
@@ -460,7 +440,7 @@ module _ (a b : Settings) (h : History) (w : World) (ok : WorldOk a b h w) (told
   told_counts e d = (let few = told_few (first_grant e.settings d + 1) (granted_streams e d) (is_done e.acked (MaxStreams d (granted_streams e d))) in omega (arith, few))
 
   abbrev counts_beyond : End → ℕ
-  counts_beyond e = (e.granted_bidi - (e.settings.grant_bidi + ended e Bidi)) + (e.granted_uni - (e.settings.grant_uni + ended e Uni))
+  counts_beyond e = (e.granted_bidi - (e.settings.grant_bidi + peers e Bidi)) + (e.granted_uni - (e.settings.grant_uni + peers e Uni))
 
   -- what both ends count of a direction, by how many streams more the other end granted than at first
   abbrev known_more : Side → Dir → ℕ
@@ -470,7 +450,7 @@ module _ (a b : Settings) (h : History) (w : World) (ok : WorldOk a b h w) (told
   blocked_count s d = told_from (first_count (end_of w s).peer d) (known_count (end_of w s) d) (is_done (acks.items s) (StreamsBlocked d (known_count (end_of w s) d)))
 
   abbrev given_count : End → Dir → ℕ
-  given_count e d = granted_streams e d - (first_grant e.settings d + ended e d)
+  given_count e d = granted_streams e d - (first_grant e.settings d + peers e d)
 
   grown_count : (g f e : ℕ) → g - f ≤ e + (g - (f + e))
   grown_count g f e = omega arith
@@ -478,11 +458,11 @@ module _ (a b : Settings) (h : History) (w : World) (ok : WorldOk a b h w) (told
   one_few : (t k f g e x : ℕ) → t ≤ g → k + f ≤ 2 * g + 1 → g ≤ e + x → t + k + f ≤ 3 * e + 3 * x + 1
   one_few t k f g e x a b c = omega (arith, a, b, c)
 
-  direction_few : (s : Side) (d : Dir) → told_count (seen_as (other s)) d + known_more s d + blocked_count s d ≤ 3 * ended (end_of w (other s)) d + 3 * given_count (end_of w (other s)) d + 1
+  direction_few : (s : Side) (d : Dir) → told_count (seen_as (other s)) d + known_more s d + blocked_count s d ≤ 3 * peers (end_of w (other s)) d + 3 * given_count (end_of w (other s)) d + 1
   direction_few s d =
       let e : End = end_of w (other s) in
-      one_few (told_count (seen_as (other s)) d) (known_more s d) (blocked_count s d) (granted_streams e d - first_grant e.settings d) (ended e d) (given_count e d) (told_here d) (known_streams s d)
-      (grown_count (granted_streams e d) (first_grant e.settings d) (ended e d))
+      one_few (told_count (seen_as (other s)) d) (known_more s d) (blocked_count s d) (granted_streams e d - first_grant e.settings d) (peers e d) (given_count e d) (told_here d) (known_streams s d)
+      (grown_count (granted_streams e d) (first_grant e.settings d) (peers e d))
     where
       told_here : (d : Dir) → told_count (seen_as (other s)) d ≤ granted_streams (end_of w (other s)) d - first_grant (end_of w (other s)).settings d
       told_here Bidi = told_counts (seen_as (other s)) Bidi
@@ -491,12 +471,12 @@ module _ (a b : Settings) (h : History) (w : World) (ok : WorldOk a b h w) (told
   counts_few : count_marks (seen_as A) Bidi + count_marks (seen_as A) Uni + count_marks (seen_as B) Bidi + count_marks (seen_as B) Uni ≤ 3 * (streams_at w.a + streams_at w.b) + 3 * (counts_beyond w.a + counts_beyond w.b) + 4
   counts_few =
       add
-      (told_count (seen_as B) Bidi) (known_more A Bidi) (blocked_count A Bidi) (ended w.b Bidi) (given_count w.b Bidi)
-      (told_count (seen_as B) Uni) (known_more A Uni) (blocked_count A Uni) (ended w.b Uni) (given_count w.b Uni)
-      (told_count (seen_as A) Bidi) (known_more B Bidi) (blocked_count B Bidi) (ended w.a Bidi) (given_count w.a Bidi)
-      (told_count (seen_as A) Uni) (known_more B Uni) (blocked_count B Uni) (ended w.a Uni) (given_count w.a Uni)
+      (told_count (seen_as B) Bidi) (known_more A Bidi) (blocked_count A Bidi) (peers w.b Bidi) (given_count w.b Bidi)
+      (told_count (seen_as B) Uni) (known_more A Uni) (blocked_count A Uni) (peers w.b Uni) (given_count w.b Uni)
+      (told_count (seen_as A) Bidi) (known_more B Bidi) (blocked_count B Bidi) (peers w.a Bidi) (given_count w.a Bidi)
+      (told_count (seen_as A) Uni) (known_more B Uni) (blocked_count B Uni) (peers w.a Uni) (given_count w.a Uni)
       (streams_at w.a) (streams_at w.b)
-      (direction_few A Bidi) (direction_few A Uni) (direction_few B Bidi) (direction_few B Uni) ended_at_b ended_at_a
+      (direction_few A Bidi) (direction_few A Uni) (direction_few B Bidi) (direction_few B Uni) peers_at_b peers_at_a
     where
       add : (t1 k1 f1 e1 x1 t2 k2 f2 e2 x2 t3 k3 f3 e3 x3 t4 k4 f4 e4 x4 na nb : ℕ) → t1 + k1 + f1 ≤ 3 * e1 + 3 * x1 + 1 → t2 + k2 + f2 ≤ 3 * e2 + 3 * x2 + 1 → t3 + k3 + f3 ≤ 3 * e3 + 3 * x3 + 1 → t4 + k4 + f4 ≤ 3 * e4 + 3 * x4 + 1
           → e1 + e2 ≤ na → e3 + e4 ≤ nb → (t3 + k1 + f1) + (t4 + k2 + f2) + (t1 + k3 + f3) + (t2 + k4 + f4) ≤ 3 * (na + nb) + 3 * ((x3 + x4) + (x1 + x2)) + 4
@@ -524,22 +504,22 @@ module _ (a b : Settings) (h : History) (w : World) (ok : WorldOk a b h w) (told
       one_few (told_credit (seen_as (other s))) (known_credit_more (end_of w s)) (blocked_credit (seen_as s)) (e.granted - e.settings.conn_window) (all_taken e) (given_credit e) (told_credits (seen_as (other s))) (known_credit s)
       (grown_count e.granted e.settings.conn_window (all_taken e))
 
-  credits_few : credit_marks (seen_as A) + credit_marks (seen_as B) ≤ 3 * (written_at w.a + written_at w.b) + 3 * (given_credit w.a + given_credit w.b) + 2
+  credits_few : credit_marks (seen_as A) + credit_marks (seen_as B) ≤ 3 * (written_on w.a + written_on w.b) + 3 * (given_credit w.a + given_credit w.b) + 2
   credits_few =
       add
       (told_credit (seen_as B)) (known_credit_more w.a) (blocked_credit (seen_as A)) (all_taken w.b) (given_credit w.b)
       (told_credit (seen_as A)) (known_credit_more w.b) (blocked_credit (seen_as B)) (all_taken w.a) (given_credit w.a)
-      (written_at w.a) (written_at w.b)
+      (written_on w.a) (written_on w.b)
       (credit_few A) (credit_few B) (all_taken_few A) (all_taken_few B)
     where
       add : (t1 k1 f1 e1 x1 t2 k2 f2 e2 x2 na nb : ℕ) → t1 + k1 + f1 ≤ 3 * e1 + 3 * x1 + 1 → t2 + k2 + f2 ≤ 3 * e2 + 3 * x2 + 1 → e1 ≤ na → e2 ≤ nb → (t2 + k1 + f1) + (t1 + k2 + f2) ≤ 3 * (na + nb) + 3 * (x2 + x1) + 2
       add t1 k1 f1 e1 x1 t2 k2 f2 e2 x2 na nb a b c d = omega (arith, a, b, c, d)
 
-  pub score_few : score (seen_as A) + score (seen_as B) ≤ most w
+  pub score_few : score (seen_as A) + score (seen_as B) ≤ lanes_most w
   score_few =
       add
       (all_types (seen_as A)) (all_types (seen_as B)) (count_marks (seen_as A) Bidi) (count_marks (seen_as A) Uni) (count_marks (seen_as B) Bidi) (count_marks (seen_as B) Uni) (credit_marks (seen_as A)) (credit_marks (seen_as B))
-      (written_at w.a) (written_at w.b) (streams_at w.a) (streams_at w.b)
+      (written_on w.a) (written_on w.b) (streams_at w.a) (streams_at w.b)
       (given_credit w.a) (beyond_on w.a 0) (beyond_on w.a 1) (beyond_on w.a 2) (beyond_on w.a 3) (given_count w.a Bidi) (given_count w.a Uni)
       (given_credit w.b) (beyond_on w.b 0) (beyond_on w.b 1) (beyond_on w.b 2) (beyond_on w.b 3) (given_count w.b Bidi) (given_count w.b Uni)
       types_few counts_few credits_few
@@ -551,10 +531,11 @@ module _ (a b : Settings) (h : History) (w : World) (ok : WorldOk a b h w) (told
           → (ta + ab + au + ca) + (tb + bb + bu + cb) ≤ 9 * (wa + wb) + 20 * (na + nb) + 6 + 3 * ((ga + l0 + l1 + l2 + l3 + pa + qa) + (gb + m0 + m1 + m2 + m3 + pb + qb))
       add ta tb ab au bb bu ca cb wa wb na nb ga l0 l1 l2 l3 pa qa gb m0 m1 m2 m3 pb qb x y z = omega (arith, x, y, z)
 
-pub is_below : (a b : Settings) (h : History) (w : World) → Run a b h w → ((s : Side) → KnowsFirstLimits w s) → score w.a + score w.b ≤ most w
+pub is_below : (a b : Settings) (h : History) (w : World) → Run a b h w → ((s : Side) → KnowsFirstLimits w s) → score w.a + score w.b ≤ most h w
 is_below a b h w run told =
     let ok = run_keeps a b h w run in
-    score_few a b h w ok told (record { sends = λ s. (end_of w s).sends; items = λ s. (end_of w s).acked; alike = λ s. slots_same (end_of w s).sends; written = acked_below a b h w ok })
+    let few = score_few a b h w ok told (record { sends = λ s. (end_of w s).sends; items = λ s. (end_of w s).acked; alike = λ s. slots_same (end_of w s).sends; written = acked_below a b h w ok }) in
+    omega (arith, few, lanes_few a b h w run)
 
 -- and so with all that is outstanding
 ahead_written : (a b : Settings) (h : History) (w : World) → WorldOk a b h w → (s : Side) (n : ℕ) (k : SendLane) → lookup (ahead (end_of w s)).sends n ≡ Some k → (q : ℕ) → set.contains k.acked q ≡ true → q < k.written
@@ -577,7 +558,8 @@ ahead_written a b h w ok s n k at q is =
     sent_lt e sent (Told (ResetStream m code size)) j here none l was = absurd none
     sent_lt e sent (Told i) j here none l was = absurd none
 
-pub ahead_below : (a b : Settings) (h : History) (w : World) → Run a b h w → ((s : Side) → KnowsFirstLimits w s) → score (ahead w.a) + score (ahead w.b) ≤ most w
+pub ahead_below : (a b : Settings) (h : History) (w : World) → Run a b h w → ((s : Side) → KnowsFirstLimits w s) → score (ahead w.a) + score (ahead w.b) ≤ most h w
 ahead_below a b h w run told =
     let ok = run_keeps a b h w run in
-    score_few a b h w ok told (record { sends = λ s. (ahead (end_of w s)).sends; items = λ s. (ahead (end_of w s)).acked; alike = λ s. alike_ahead (end_of w s); written = ahead_written a b h w ok })
+    let few = score_few a b h w ok told (record { sends = λ s. (ahead (end_of w s)).sends; items = λ s. (ahead (end_of w s)).acked; alike = λ s. alike_ahead (end_of w s); written = ahead_written a b h w ok }) in
+    omega (arith, few, lanes_few a b h w run)

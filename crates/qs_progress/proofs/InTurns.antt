@@ -415,21 +415,21 @@ module _ (a b : Settings) where
 
     -- How many there were
 
-    few : (k n c : ℕ) (now : Moment) → Since k now → c ≤ 6 → n + 2 * s0 ≤ w + 6 * k + c + 2 * (would A now + would B now) → n ≤ w + 8 * most now.ends + 12
+    few : (k n c : ℕ) (now : Moment) → Since k now → c ≤ 6 → n + 2 * s0 ≤ w + 6 * k + c + 2 * (would A now + would B now) → n ≤ w + 8 * most now.log now.ends + 12
     few k n c now it small count =
         let below = ahead_below a b now.log now.ends it.at.run it.at.knows_first in
         let low = level_low a b it.begins it.base.before in
         omega (arith, below, would_more a b A now, would_more a b B now, it.base.rounds, low)
 
-    pub few_loses_a : (k n : ℕ) (now : Moment) → LosesA k n now → n ≤ w + 8 * most now.ends + 12
+    pub few_loses_a : (k n : ℕ) (now : Moment) → LosesA k n now → n ≤ w + 8 * most now.log now.ends + 12
     few_loses_a k n now st =
         let f = is_first st.since in
         few k n 0 now st.since (omega arith) (omega (arith, floor_would f now.ends.a, floor_would f now.ends.b))
 
-    pub few_sends_a : (k n : ℕ) (now : Moment) → SendsA k n now → n ≤ w + 8 * most now.ends + 12
+    pub few_sends_a : (k n : ℕ) (now : Moment) → SendsA k n now → n ≤ w + 8 * most now.log now.ends + 12
     few_sends_a k n now st = few k n 2 now st.since (omega arith) (omega (arith, floor_would (is_first st.since) now.ends.b))
 
-    pub few_pends_a : (k n : ℕ) (now : Moment) → PendsA k n now → suc n ≤ w + 8 * most now.ends + 12
+    pub few_pends_a : (k n : ℕ) (now : Moment) → PendsA k n now → suc n ≤ w + 8 * most now.log now.ends + 12
     few_pends_a k n now (was, st, busy, pend) =
         let x = makes A pend.first pend.delay pend.room pend.made pend.text in
         let adds = made_adds a b A pend.first pend.delay pend.room pend.made pend.text was now st.since.at pend.happens in
@@ -437,20 +437,20 @@ module _ (a b : Settings) where
         let more = would_grow a b x was now st.since.at tt pend.happens B in
         few k (suc n) 2 now (since_next x was now st.since pend.happens) (omega arith) (omega (arith, adds, two, more))
 
-    pub few_loses_b : (k n : ℕ) (now : Moment) → LosesB k n now → n ≤ w + 8 * most now.ends + 12
+    pub few_loses_b : (k n : ℕ) (now : Moment) → LosesB k n now → n ≤ w + 8 * most now.log now.ends + 12
     few_loses_b k n now st = few k n 3 now st.after.since (omega arith) (omega (arith, floor_would (is_first st.after.since) now.ends.b))
 
-    pub few_sends_b : (k n : ℕ) (now : Moment) → SendsB k n now → n ≤ w + 8 * most now.ends + 12
+    pub few_sends_b : (k n : ℕ) (now : Moment) → SendsB k n now → n ≤ w + 8 * most now.log now.ends + 12
     few_sends_b k n now st = few k n 5 now st.after.since (omega arith) (omega arith)
 
-    pub few_pends_b : (k n : ℕ) (now : Moment) → PendsB k n now → suc n ≤ w + 8 * most now.ends + 12
+    pub few_pends_b : (k n : ℕ) (now : Moment) → PendsB k n now → suc n ≤ w + 8 * most now.log now.ends + 12
     few_pends_b k n now (was, st, pend) =
         let x = makes B pend.first pend.delay pend.room pend.made pend.text in
         let adds = made_adds a b B pend.first pend.delay pend.room pend.made pend.text was now st.after.since.at pend.happens in
         let more = would_grow a b x was now st.after.since.at tt pend.happens A in
         few k (suc n) 5 now (since_next x was now st.after.since pend.happens) (omega arith) (omega (arith, adds, more))
 
-    pub few_reads : (k n : ℕ) (now : Moment) → ReadsA k n now → n ≤ w + 8 * most now.ends + 12
+    pub few_reads : (k n : ℕ) (now : Moment) → ReadsA k n now → n ≤ w + 8 * most now.log now.ends + 12
     few_reads k n now st = few k n 6 now st.after.since (omega arith) (omega arith)
 
   -- How it begins

@@ -4,6 +4,7 @@ pub mod Items
 pub mod Score
 pub mod Exclusions
 pub mod Within
+pub mod SetBeyond
 pub mod Bound
 pub mod CalmCalls
 pub mod InOrder

@@ -44,7 +44,7 @@ use Rattle.qs_machine.specs.Repeats.{WasWritten}
 use Rattle.qs_progress.specs.Score.{score}
 use Rattle.qs_progress.specs.Within.{AllWithin}
 use Rattle.qs_progress.specs.Outstanding.{IsIn, IsReached}
-use Rattle.qs_progress.proofs.Bound.{lookup_at}
+use Rattle.qs_progress.proofs.SetBeyond.{lookup_at}
 use Rattle.qs_progress.proofs.Halves.{got_edits}
 use Rattle.qs_progress.proofs.Score.{Goes}
 use Rattle.qs_progress.proofs.Even.{members_even, acked_even, fin_even, reset_even, read_even, told_even_of}

@@ -1,21 +1,48 @@
 -- Of laws.
 -- What a score counts, and what it doesn't. The whole file is ours.
-use Rattle.std.specs.Prelude.{◌≡◌, ℕ, ◌+◌, false, true, None, Some}
+use Rattle.std.specs.Prelude.{◌≡◌, ℕ, ◌+◌, false, true, [], ◌∷◌, None, Some, Ok, Err}
 use Rattle.qs_recv.specs.Lane.{RecvLane}
 use Rattle.qs_send.specs.Lane.{SendLane}
 use Rattle.qs_wire.specs.declared.stream_id.Role.{Role}
+use Rattle.qs_wire.specs.declared.stream_id.Dir.TheVariants.{Uni}
+use Rattle.qs_calls.specs.declared.settings.SetFault.{SetFault}
+use Rattle.qs_calls.specs.declared.event.Side.TheVariants.{A, B}
 use Rattle.qs_calls.specs.Settings.{limits_of, default_tuning}
 use Rattle.qs_machine.specs.Ends.{End, no_items, new_end}
 use Rattle.qs_machine.specs.Raising.{limits_raised}
-use Rattle.qs_machine.specs.Examples.{standard, client_of}
-use Rattle.qs_machine.specs.SmallEnds.{raised}
+use Rattle.qs_machine.specs.Setting.{ConnWindow, Grant, SendBuffer, StreamWindow}
+use Rattle.qs_machine.specs.EndStep.{Set}
+use Rattle.qs_machine.specs.Examples.{standard, client_of, server}
+use Rattle.qs_machine.specs.SmallEnds.{raised, abc}
+use Rattle.qs_runs.specs.Worlds.{World}
+use Rattle.qs_runs.specs.Examples.{at, wrote}
 use Rattle.qs_progress.specs.Score.{sent_marks, got_marks, score}
+use Rattle.qs_progress.specs.Bound.{most}
 
 -- a client that was told of four bytes more of the connection's credit
 abbrev pub knowing : End
 knowing = record (client_of standard) { known_data = 4100 }
 
+-- a client and a server of the standard settings
+abbrev pub two : World
+two = record { a = client_of standard; b = server standard }
+
+-- The bound counts
+pub record BoundCounts : Type 0 where
+  -- nothing where nothing happened, and nine for each byte that was accepted
+  pub none : most [] two ≡ 6
+  pub written : most (wrote A abc 3 ∷ wrote B abc 2 ∷ []) two ≡ 51
+  -- three for each byte or stream by which a window or a grant was set beyond the first
+  pub window : most (at A (Set (ConnWindow 5000)) (Ok tt) ∷ []) two ≡ 2718
+  pub stream : most (at B (Set (StreamWindow 0 1034)) (Ok tt) ∷ []) two ≡ 36
+  pub grant : most (at A (Set (Grant Uni 10)) (Ok tt) ∷ []) two ≡ 12
+  -- none for a narrower one, for a buffer, or for what was refused
+  pub narrower : most (at A (Set (ConnWindow 1)) (Ok tt) ∷ []) two ≡ 6
+  pub buffer : most (at A (Set (SendBuffer 0 5000)) (Ok tt) ∷ []) two ≡ 6
+  pub refused : (fault : SetFault) → most (at A (Set (ConnWindow 5000)) (Err fault) ∷ []) two ≡ 6
+
 pub record Exclusions : Type 0 where
+  pub bound : BoundCounts
   -- at an end that is new nothing is done
   pub new : (role : Role) → score (new_end role standard default_tuning (limits_of standard)) ≡ 0
   -- of a limit one thing for each value that the present one has passed, and one for that, once it is acknowledged

@@ -1,6 +1,6 @@
 -- Of laws.
 -- What an end did and knows for good: a count that never falls. The whole file is ours: RFC 9000 has no measure of a connection.
-use Rattle.std.specs.Prelude.{ℕ, ◌+◌, ◌-◌, ◌*◌, ◌≤◌, Bool, false, not, ◌&&◌, ◌||◌, nat_le, Option, None, Some, is_some, if◌then◌else◌}
+use Rattle.std.specs.Prelude.{ℕ, ◌∷◌, ◌+◌, ◌-◌, ◌*◌, ◌≤◌, Bool, false, not, ◌&&◌, ◌||◌, nat_le, Option, None, Some, is_some, if◌then◌else◌}
 use Rattle.std.specs.List.{range_with_len, sum_by}
 use Rattle.std.specs.FinMap as fmap
 use Rattle.std.specs.FinSet as set
@@ -101,7 +101,11 @@ type_marks e kind = sum_by (λ i. stream_marks e (i * 4 + kind)) (range_with_len
 abbrev pub score : End → ℕ
 score e = type_marks e 0 + type_marks e 1 + type_marks e 2 + type_marks e 3 + count_marks e Bidi + count_marks e Uni + credit_marks e
 
+-- of a side in a run, by what happened: its end keeps all that counts
+abbrev pub score_in : Side → History → World → ℕ
+score_in s h w = score (end_of w s)
+
 -- in every run, whatever happens: what an end did and knows for good stays so, once it was told its peer's true limits
 abbrev pub WhatIsDoneStays : Type 0
 WhatIsDoneStays =
-    (a b : Settings) (h : History) (v w : World) (x : Happening) → Run a b h v → WorldStep h v x w → (s : Side) → KnowsFirstLimits v s → score (end_of v s) ≤ score (end_of w s)
+    (a b : Settings) (h : History) (v w : World) (x : Happening) → Run a b h v → WorldStep h v x w → (s : Side) → KnowsFirstLimits v s → score_in s h v ≤ score_in s (x ∷ h) w

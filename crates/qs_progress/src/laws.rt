@@ -17,8 +17,8 @@ pub fn what_is_done_stays()
     ensures { WhatIsDoneStays }
 {}
 
-/// And it is bounded, once both ends were told them: by the bytes that were written, the streams that were opened, and what was granted
-/// beyond the first windows and grants.
+/// And it is bounded, once both ends were told them: by the bytes that were written, the streams that were opened, and what was set beyond
+/// the first windows and grants.
 pub fn done_is_bounded()
     ensures { DoneIsBounded }
 {}

@@ -8,7 +8,7 @@ use Rattle.qs_recv.specs.Lane.{RecvLane, taken, next_limit}
 use Rattle.qs_send.specs.Lane.{SendLane}
 use Rattle.qs_calls.specs.declared.settings.Settings.{Settings}
 use Rattle.qs_calls.specs.declared.event.Side.{Side}
-use Rattle.qs_machine.specs.Ends.{is_uni, is_own_by, first_window_by, first_window, first_send_limit}
+use Rattle.qs_machine.specs.Ends.{is_uni, is_own_by, first_window_by, first_send_limit}
 use Rattle.qs_machine.specs.Credit.{all_sent, all_taken}
 use Rattle.qs_machine.proofs.CallsSound.{WindowsFit, windows_fit}
 use Rattle.qs_runs.specs.Logs.{History, other, stopped, broken_off, read, written}

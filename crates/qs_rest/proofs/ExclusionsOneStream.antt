@@ -1,5 +1,5 @@
 -- Which small streams rest, and what their rest tells.
-use Rattle.std.proofs.Common.{◌≡◌, ℕ, ◌<◌, Bool, true, false, not, ◌&&◌, [], ◌∷◌, length, Some, None, refl, sym, ap, ◌∙◌, subst, arith, inl, inr, nat_cmp, if◌then◌else◌}
+use Rattle.std.proofs.Common.{◌≡◌, ℕ, ◌<◌, true, false, [], ◌∷◌, length, Some, refl, sym, ap, ◌∙◌, subst, arith, inl, inr, nat_cmp, if◌then◌else◌}
 use Rattle.std.proofs.lemmas.Option.{none-some, same_Some}
 use Rattle.std.proofs.lemmas.Bool.{and_parts, false≢true, true≢false}
 use Rattle.std.proofs.lemmas.Bool.Decides.{nat_tests}
@@ -17,18 +17,16 @@ use Rattle.qs_send.proofs.Outstanding.{carried-empty}
 use Rattle.qs_send.proofs.Runs.{unacked-empty}
 use Rattle.qs_calls.specs.declared.event.Side.TheVariants.{A}
 use Rattle.qs_machine.specs.Tables.{lookup, total}
-use Rattle.qs_machine.specs.Due.{IsDue, Sendable}
 use Rattle.qs_machine.specs.SmallEnds.{client_with, server_with, abc, chunk, wrote, sent, three_came, all_came}
-use Rattle.qs_machine.proofs.Counts.{no_lane}
 use Rattle.qs_machine.proofs.SmallEndsLaws.{one_carried}
-use Rattle.qs_runs.specs.Logs.{History, effects}
+use Rattle.qs_runs.specs.Logs.{effects}
 use Rattle.qs_runs.specs.Worlds.{World}
 use Rattle.qs_runs.specs.Examples.{wrote as wrote_by}
 use Rattle.qs_rest.specs.Rest.{TellsNoNews}
 use Rattle.qs_rest.specs.Resting.{IsReadAtBoth}
-use Rattle.qs_rest.specs.OneStream.{StreamRests, SentIsRead, AnswersSo}
+use Rattle.qs_rest.specs.OneStream.{AnswersSo}
 use Rattle.qs_rest.specs.Exclusions.{beside_server}
-use Rattle.qs_rest.specs.ExclusionsOneStream.{both, acked, end_sent, busy, DoesNotRest, RestsBesideAnother, IsNotAllRead, IsNotAnswered, OneStreamExclusions}
+use Rattle.qs_rest.specs.ExclusionsOneStream.{both, acked, end_sent, DoesNotRest, RestsBesideAnother, IsNotAllRead, IsNotAnswered, OneStreamExclusions}
 use Rattle.qs_rest.proofs.Exclusions.{first_came}
 use Rattle.qs_rest.proofs.OneStream.{whole_state}
 

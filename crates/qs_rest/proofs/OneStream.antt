@@ -1,5 +1,5 @@
 -- One stream at rest: what was sent of it came, and was read.
-use Rattle.std.proofs.Common.{◌≡◌, ℕ, zero, suc, ◌+◌, ◌-◌, ◌<◌, ◌≤◌, Bool, true, false, not, ◌&&◌, ◌⊎◌, List, ◌++◌, length, take, Option, Some, None, is_some, refl, sym, ap, ◌∙◌, subst, arith, inl, inr}
+use Rattle.std.proofs.Common.{◌≡◌, ℕ, zero, suc, ◌+◌, ◌-◌, ◌<◌, ◌≤◌, Bool, true, false, List, length, take, Option, Some, None, is_some, refl, sym, ap, ◌∙◌, subst, arith, inl, inr}
 use Rattle.std.proofs.lemmas.Option.{none-some, same_Some}
 use Rattle.std.proofs.lemmas.Bool.{and_from, and_parts, eq-eqb, true≢false, false≢true}
 use Rattle.std.proofs.lemmas.Bool.Decides.{nat_tests}
@@ -7,14 +7,13 @@ use Rattle.std.proofs.Math.Seq.{take-append_seam}
 use Rattle.std.specs.FinSet as set
 use Rattle.qs_ranges.specs.Numbers.{NumberSet, missing_from, end_of as set_end}
 use Rattle.qs_ranges.proofs.Sets.{covers-of, missing_from-of}
-use Rattle.qs_recv.specs.Lane.{RecvLane, highest, taken, is_whole, whole_to, read_answer, state as recv_state}
+use Rattle.qs_recv.specs.Lane.{RecvLane, highest, taken, is_whole, whole_to, read_answer}
 use Rattle.qs_recv.specs.Lawful.{IsLawful}
 use Rattle.qs_recv.specs.News.{is_readable}
-use Rattle.qs_recv.specs.declared.half.RecvState.TheVariants.{DataRead}
 use Rattle.qs_send.specs.Lane.{SendLane, unacked_from, is_whole as send_whole, state as send_state}
 use Rattle.qs_send.specs.declared.parts.Reset.{Reset}
 use Rattle.qs_send.specs.declared.parts.SendState.TheVariants.{DataRecvd}
-use Rattle.qs_send.specs.declared.piece.Item.TheVariants.{ResetStream, StopSending}
+use Rattle.qs_send.specs.declared.piece.Item.TheVariants.{StopSending}
 use Rattle.qs_calls.specs.declared.settings.Settings.{Settings}
 use Rattle.qs_calls.specs.declared.event.Side.{Side}
 use Rattle.qs_machine.specs.Ends.{first_send_limit, first_window}

@@ -27,7 +27,7 @@ use Rattle.qs_calls.specs.declared.event.Side.TheVariants.{A, B}
 use Rattle.qs_machine.specs.Tables.{lookup, total}
 use Rattle.qs_machine.specs.Ends.{End}
 use Rattle.qs_machine.specs.Credit.{spent}
-use Rattle.qs_machine.specs.Seen.{Seen, Control, Close, Plain}
+use Rattle.qs_machine.specs.Seen.{Seen, Control, Plain}
 use Rattle.qs_machine.specs.Plains.{frames_in, but_plain}
 use Rattle.qs_machine.specs.SmallEnds.{server_with, abc, sent, fresh, all_came}
 use Rattle.qs_machine.specs.EndStep.{Receive, TakeFrames}

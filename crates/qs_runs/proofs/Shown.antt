@@ -1,22 +1,18 @@
 -- What a look shows follows what was read, and is what is taken then.
-use Rattle.std.proofs.Common.{◌≡◌, ℕ, zero, suc, ◌+◌, ◌-◌, ◌<◌, ◌≤◌, ◌==◌, Bool, true, false, if◌then◌else◌, List, [], ◌∷◌, ◌++◌, ◌⊎◌, length, take, drop, Option, Some, None, Result, Ok, Err, slice_get, refl, sym, ap, ◌∙◌, subst, arith, inl, inr, append-nil, length-append}
-use Rattle.std.specs.Prelude.{flat_map, ⊤}
-use Rattle.std.proofs.lemmas.Bool.{cases_lt, eqb-true}
-use Rattle.std.proofs.lemmas.Bool.Decides.{nat_tests}
+use Rattle.std.proofs.Common.{◌≡◌, ℕ, suc, ◌+◌, ◌-◌, ◌≤◌, ◌==◌, Bool, true, false, if◌then◌else◌, List, [], ◌∷◌, ◌++◌, length, take, drop, Some, Ok, slice_get, refl, sym, ap, ◌∙◌, subst, arith, inl, inr, append-nil, length-append}
+use Rattle.std.specs.Prelude.{flat_map}
+use Rattle.std.proofs.lemmas.Bool.{eqb-true}
 use Rattle.std.proofs.lemmas.Option.{none-some, same_Some}
 use Rattle.std.proofs.lemmas.Grind.{flat_map-append}
 use Rattle.qs_recv.specs.Assembled.{front, front_of}
 use Rattle.qs_recv.specs.Lane.{RecvLane, bytes_of}
 use Rattle.qs_recv.specs.Peek.{IsFront}
-use Rattle.qs_recv.specs.declared.half.Peek.{Peek as Peeked}
 use Rattle.qs_recv.specs.declared.half.Peek.TheVariants as looks
 use Rattle.qs_calls.specs.declared.settings.Settings.{Settings}
-use Rattle.qs_calls.specs.declared.uses.UseFault.{UseFault}
 use Rattle.qs_calls.specs.declared.event.Side.{Side}
 use Rattle.qs_calls.specs.declared.event.Side.TheVariants.{A, B}
 use Rattle.qs_machine.specs.Tables.{lookup}
 use Rattle.qs_machine.specs.Ends.{first_window}
-use Rattle.qs_machine.specs.Asking.{IsPeeked}
 use Rattle.qs_machine.specs.EndStep.{Call, Answer, EndStep, Peek}
 use Rattle.qs_runs.specs.Logs.{Happening, History, other, same_side, effects, effects_of, gave_in, wrote_in, written, read, shown, shown_after}
 use Rattle.qs_runs.specs.Worlds.{World, end_of, WorldStep, Run}

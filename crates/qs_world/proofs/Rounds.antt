@@ -364,13 +364,13 @@ module _ (a b : Settings) where
         let (i, done) = one_event j n mid p run_mid not now event answer ready of (log, step, good) in
         (subst (λ h. EventRun a b h p.ends) (sym log) (mid.ends, run_mid, step), i, subst (λ t. Stands i (suc n) t p) (sym after) done)
 
-    few : (k n : ℕ) (turn : Turn) (p : Played) → Stands k n turn p → n ≤ allowed + 8 * most p.ends + 12
+    few : (k n : ℕ) (turn : Turn) (p : Played) → Stands k n turn p → n ≤ allowed + 8 * most (happened p.log) p.ends + 12
     few k n (turns.Lose A) p (st, may) = round.few_loses_a a b first allowed k n (moment p) st
     few k n (turns.Lose B) p (st, unmade) = round.few_loses_b a b first allowed k n (moment p) st
     few k n (turns.Make A) p (inl (st, may)) = round.few_sends_a a b first allowed k n (moment p) st
-    few k n (turns.Make A) p (inr (j, count, pends, at)) = subst (λ m. m ≤ allowed + 8 * most p.ends + 12) (sym count) (round.few_pends_a a b first allowed k j (moment p) pends)
+    few k n (turns.Make A) p (inr (j, count, pends, at)) = subst (λ m. m ≤ allowed + 8 * most (happened p.log) p.ends + 12) (sym count) (round.few_pends_a a b first allowed k j (moment p) pends)
     few k n (turns.Make B) p (inl (st, unmade)) = round.few_sends_b a b first allowed k n (moment p) st
-    few k n (turns.Make B) p (inr (j, count, pends, at)) = subst (λ m. m ≤ allowed + 8 * most p.ends + 12) (sym count) (round.few_pends_b a b first allowed k j (moment p) pends)
+    few k n (turns.Make B) p (inr (j, count, pends, at)) = subst (λ m. m ≤ allowed + 8 * most (happened p.log) p.ends + 12) (sym count) (round.few_pends_b a b first allowed k j (moment p) pends)
     few k n (turns.Read A) p (st, unmade) = round.few_reads a b first allowed k n (moment p) st
     few k n (turns.Read B) p (st, unmade) = round.few_reads a b first allowed k n (moment p) st.reads
 

@@ -6,6 +6,7 @@ use Rattle.std.specs.FinMap as fmap
 use Rattle.qs_calls.specs.declared.answer.Answer.{Answer}
 use Rattle.qs_calls.specs.declared.answer.Answer.TheVariants as answers
 use Rattle.qs_calls.specs.declared.closing.Received.TheVariants.{Done}
+use Rattle.qs_runs.specs.Events.{happened}
 use Rattle.qs_progress.specs.Bound.{most}
 use Rattle.qs_world.specs.declared.report.PlayFault.{PlayFault}
 use Rattle.qs_world.specs.declared.world.draining.Drained.{Drained}
@@ -23,5 +24,5 @@ is_refused answer = false
 -- All that were allowed happened, and the ends aren't at rest. Then one of these events was refused; or that was too few: no more than one
 -- for each packet that was outstanding, eight for each thing that can be done for good, and thirteen.
 abbrev pub ComesToRest : Played → ℕ → Result Drained PlayFault → Played → Type 0
-ComesToRest old allowed (Ok UsedUp) new = list_any (λ x. is_refused x.1) (take allowed new.log) ≡ false → allowed ≤ fmap.len old.ends.a.outstanding + fmap.len old.ends.b.outstanding + 8 * most new.ends + 13
+ComesToRest old allowed (Ok UsedUp) new = list_any (λ x. is_refused x.1) (take allowed new.log) ≡ false → allowed ≤ fmap.len old.ends.a.outstanding + fmap.len old.ends.b.outstanding + 8 * most (happened new.log) new.ends + 13
 ComesToRest old allowed result new = ⊤

@@ -1,5 +1,5 @@
--- Of public contracts.
--- Of copies: what is the same but for where its bytes lie in memory.
+-- Trusted.
+-- Of copies: what is the same but for where its bytes lie in memory. The whole file is ours: RFC 9000 knows no scripts.
 use Rattle.std.specs.Prelude.{◌≡◌, List, [], ◌∷◌, reverse, Result, ⊤}
 use Rattle.qs_calls.specs.declared.settings.Settings.{Settings}
 use Rattle.qs_calls.specs.declared.event.Act.{Act}

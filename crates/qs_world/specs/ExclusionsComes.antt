@@ -7,6 +7,7 @@ use Rattle.std.specs.Global.{Vec}
 use Rattle.qs_calls.specs.declared.answer.Answer.TheVariants as answers
 use Rattle.qs_calls.specs.declared.closing.Received.TheVariants as received
 use Rattle.qs_machine.specs.SmallEnds.{raised}
+use Rattle.qs_runs.specs.Events.{happened}
 use Rattle.qs_progress.specs.Bound.{most}
 use Rattle.qs_world.specs.declared.world.draining.Drained.TheVariants.{UsedUp}
 use Rattle.qs_world.specs.Plays.{Played}
@@ -19,7 +20,7 @@ have_more = record { log = []; ends = record { a = raised; b = raised } }
 
 pub record ComesExclusions : Type 0 where
   -- where nothing was outstanding, and six things can be done for good, sixty-two events of which none is refused are too many
-  pub too_many : (old new : Played) → fmap.len old.ends.a.outstanding ≡ 0 → fmap.len old.ends.b.outstanding ≡ 0 → most new.ends ≡ 6 → list_any (λ x. is_refused x.1) (take 62 new.log) ≡ false → ComesToRest old 62 (Ok UsedUp) new → ⊥
+  pub too_many : (old new : Played) → fmap.len old.ends.a.outstanding ≡ 0 → fmap.len old.ends.b.outstanding ≡ 0 → most (happened new.log) new.ends ≡ 6 → list_any (λ x. is_refused x.1) (take 62 new.log) ≡ false → ComesToRest old 62 (Ok UsedUp) new → ⊥
   -- a packet that isn't taken in whole counts as refused
   pub in_part : is_refused (answers.Deliver (Ok received.NoMemory)) ≡ true
   pub again : is_refused (answers.Deliver (Ok received.Duplicate)) ≡ true

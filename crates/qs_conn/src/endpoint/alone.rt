@@ -8,7 +8,8 @@ ghost use Rattle.qs_machine.specs.Seen.{seen};
 ghost use Rattle.qs_machine.specs.Receiving.{closing_at};
 ghost use Rattle.qs_machine.specs.Changes.{is_yet_to_open, item_changes, changes};
 ghost use Rattle.qs_conn.specs.Seen.{view_seen, SeenFits};
-ghost use Rattle.qs_machine.specs.Alone.{is_ours, alone, closed_fault, noted_fault, of_both, TakesOne, TakesEach, TakeFrameStep, TakeFramesStep};
+ghost use Rattle.qs_machine.specs.Alone.{is_ours, alone, closed_fault, noted_fault, of_both, TakesOne, TakesEach};
+ghost use Rattle.qs_machine.specs.EndStep.{EndStep, TakeFrame, TakeFrames};
 
 use super::receiving::noted_of_us;
 use super::{Endpoint, is_uni};
@@ -42,7 +43,7 @@ impl Endpoint {
     /// ```
     #[tactic(auto, using(crate::proofs::Asked::said_again, crate::proofs::Asked::passed_by, crate::proofs::Asked::is_taken))]
     pub fn take_frame(&mut self, frame: &Frame<'_>) -> Result<Taken, TakeFault>
-        ensures { TakeFrameStep self.old (view frame.now) result self.new }
+        ensures { EndStep self.old (TakeFrame (view frame.now)) result self.new }
     {
         if let Some(fault) = self.closed_fault() {
             return Err(fault);
@@ -68,7 +69,7 @@ impl Endpoint {
         bytes: &[u8],
         fin: bool,
     ) -> Result<Taken, TakeFault>
-        ensures { TakeFrameStep self.old (layout.stream stream offset fin bytes.now) result self.new }
+        ensures { EndStep self.old (TakeFrame (layout.stream stream offset fin bytes.now)) result self.new }
     {
         self.take_frame(&Frame::Stream {
             stream,
@@ -90,7 +91,7 @@ impl Endpoint {
     /// ```
     #[tactic(auto, using(crate::proofs::Asked::all_said_again, crate::proofs::Asked::are_taken))]
     pub fn take_frames(&mut self, frames: &[Frame<'_>]) -> Result<Taken, TakeFault>
-        ensures { TakeFramesStep self.old (map view frames.now) result self.new }
+        ensures { EndStep self.old (TakeFrames (map view frames.now)) result self.new }
     {
         if let Some(fault) = self.closed_fault() {
             return Err(fault);

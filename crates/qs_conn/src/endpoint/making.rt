@@ -2,10 +2,11 @@
 ghost use Rattle.std.specs.Prelude.{◌≡◌, ◌≤◌, ◌<◌, ◌^◌, ◌↔◌, ℕ, IsTrue, List, [], length, if◌then◌else◌};
 ghost use Rattle.qs_machine.specs.Ends.{End};
 ghost use Rattle.qs_machine.specs.Due.{Sendable};
-ghost use Rattle.qs_machine.specs.Making.{MakeBy, MakeStep, MakeAckStep, ClaimStep};
+ghost use Rattle.qs_machine.specs.Making.{MakeBy, MakeStep, ClaimStep};
 ghost use Rattle.qs_machine.specs.InOrder.{NothingStarves, NoItemStarves};
 ghost use Rattle.qs_conn.specs.Written.{made_text, KeepsRest, filled_text, KeepsBehind};
-ghost use Rattle.qs_machine.specs.Filling.{WantedGoes, FillBy, FillStep, still_asked};
+ghost use Rattle.qs_machine.specs.Filling.{WantedGoes, FillBy, still_asked};
+ghost use Rattle.qs_machine.specs.EndStep.{EndStep, Make, MakeAck, FillIn};
 
 use super::Endpoint;
 use crate::filling::{Course, Wish, put_kept};
@@ -41,7 +42,7 @@ impl Endpoint {
         requires delay { delay < 2 ^ 62 }
         requires least { 128 ≤ length out.old }
         requires most { length out.old ≤ 16383 }
-        ensures step { MakeStep self.old first delay (length out.old) result (made_text result out.new) self.new }
+        ensures step { EndStep self.old (Make first delay (length out.old)) (result, made_text result out.new) self.new }
         ensures order { NothingStarves self.old result self.new }
         ensures rest { KeepsRest result out.old out.new }
     {
@@ -115,7 +116,7 @@ impl Endpoint {
         requires delay { delay < 2 ^ 62 }
         requires least { 128 ≤ length out.old }
         requires most { length out.old ≤ 16383 }
-        ensures step { MakeAckStep self.old delay (length out.old) result (made_text result out.new) self.new }
+        ensures step { EndStep self.old (MakeAck delay (length out.old)) (result, made_text result out.new) self.new }
         ensures rest { KeepsRest result out.old out.new }
     {
         if self.closed.is_some() {
@@ -177,7 +178,7 @@ impl Endpoint {
     /// Refused, and then unchanged: `Closed`; `Exhausted` if the last number was used; `NoMemory`, only if something that is asked for may
     /// go.
     pub fn fill(&mut self, out: &mut [u8], want: &Fill) -> Result<Option<Filled>, MakeFault>
-        ensures step { FillStep self.old want.now (length out.old) result (filled_text result out.new) self.new }
+        ensures step { EndStep self.old (FillIn want.now (length out.old)) (result, filled_text result out.new) self.new }
         ensures order { NoItemStarves want.now self.old result self.new }
         ensures rest { KeepsBehind result out.old out.new }
     {

@@ -8,7 +8,8 @@ ghost use Rattle.qs_machine.specs.Credit.{settle};
 ghost use Rattle.qs_machine.specs.Due.{known_count};
 ghost use Rattle.qs_machine.specs.Memory.{IsYetToOpen};
 ghost use Rattle.qs_machine.specs.Outgoing.{with_sends};
-ghost use Rattle.qs_machine.specs.Owner.{OpenStep, AcceptStep, AcceptOfStep, own_type, peer_type, opened_count, with_wanted};
+ghost use Rattle.qs_machine.specs.Owner.{OpenStep, AcceptStep, own_type, peer_type, opened_count, with_wanted};
+ghost use Rattle.qs_machine.specs.EndStep.{EndStep, AcceptOf};
 
 use super::{Endpoint, is_uni, role_bit};
 use crate::outbox::Outbox;
@@ -58,7 +59,7 @@ impl Endpoint {
     /// Returns each stream of one direction that the peer opened, once: lower numbers first (RFC 9000, section 2.1). What this call
     /// returned `accept` doesn't, and the other way round.
     pub fn accept_of(&mut self, dir: Dir) -> Option<StreamId>
-        ensures { AcceptOfStep self.old dir result self.new }
+        ensures { EndStep self.old (AcceptOf dir) result self.new }
     {
         if self.closed.is_some() {
             return None;

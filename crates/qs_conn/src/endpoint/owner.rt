@@ -7,8 +7,9 @@ ghost use Rattle.qs_machine.specs.Sums.{or_none};
 ghost use Rattle.qs_conn.specs.Sending.{offered, let_go};
 ghost use Rattle.qs_recv.specs.declared.credit.Share.TheVariants as shares;
 ghost use Rattle.qs_machine.specs.Verdicts.{or_new};
-ghost use Rattle.qs_machine.specs.Owner.{WriteStep, FinishStep, ResetStep, StopStep, StopAndDiscardStep, ReadStep, ConsumeStep, is_read_no_more, no_half, use_fault};
+ghost use Rattle.qs_machine.specs.Owner.{WriteStep, FinishStep, ResetStep, StopStep, ReadStep, ConsumeStep, AreTaken, is_read_no_more, no_half, use_fault};
 ghost use Rattle.qs_machine.specs.Reports.{lane_report, own_closing};
+ghost use Rattle.qs_machine.specs.EndStep.{EndStep, Consume, StopAndDiscard, Report};
 ghost use Rattle.qs_conn.specs.Layers.{no_sender, no_receiver};
 
 use super::Endpoint;
@@ -145,7 +146,8 @@ impl Endpoint {
     /// ```
     #[tactic(auto, using(crate::proofs::Hearing::consume_ok, crate::proofs::Hearing::consume_refused, crate::proofs::Hearing::receiver_open, crate::proofs::Hearing::receiver_open_still))]
     pub fn consume(&mut self, stream: StreamId, most: usize) -> Result<Consumed, UseFault>
-        ensures { ConsumeStep self.old stream most result self.new }
+        ensures step { ConsumeStep self.old stream most result self.new }
+        ensures call { (bytes : List ℕ) → AreTaken self.old stream most result bytes → EndStep self.old (Consume stream most) (result, bytes) self.new }
     {
         if let Some(fault) = self.no_reader(stream) {
             return Err(fault);
@@ -205,7 +207,7 @@ impl Endpoint {
     #[tactic(auto, using(crate::proofs::Hearing::forget_ok))]
     pub fn stop_and_discard(&mut self, stream: StreamId, code: u64) -> Result<(), UseFault>
         requires { code < 2 ^ 62 }
-        ensures { StopAndDiscardStep self.old stream code result self.new }
+        ensures { EndStep self.old (StopAndDiscard stream code) result self.new }
     {
         if let Some(fault) = self.no_receiver(self.closed.is_some(), stream) {
             return Err(fault);
@@ -223,7 +225,8 @@ impl Endpoint {
 
     /// The states of the stream's halves at this endpoint, `None` if it isn't open.
     pub fn lane_report(&self, stream: StreamId) -> Option<LaneReport>
-        ensures { result ≡ lane_report self.now stream }
+        ensures report { result ≡ lane_report self.now stream }
+        ensures call { EndStep self.now (Report stream) result self.now }
     {
         let send = match self.core.outbox.half(stream) {
             Some(half) => Some(SendReport {

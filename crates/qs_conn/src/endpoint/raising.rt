@@ -4,7 +4,8 @@ ghost use Rattle.qs_send.specs.Lane.{allow_lane};
 ghost use Rattle.qs_calls.specs.Settings.{limits_fault};
 ghost use Rattle.qs_machine.specs.Tables.{lookup};
 ghost use Rattle.qs_machine.specs.Ends.{on_send, first_send_limit};
-ghost use Rattle.qs_machine.specs.Raising.{RaiseStep, raise_refusal, greater_limits, knows_limits, type_allowed};
+ghost use Rattle.qs_machine.specs.Raising.{raise_refusal, greater_limits, knows_limits, type_allowed};
+ghost use Rattle.qs_machine.specs.EndStep.{EndStep, RaiseLimits};
 
 use super::Endpoint;
 use crate::setup::limits_fault;
@@ -18,7 +19,7 @@ impl Endpoint {
     ///
     /// Refused, and then unchanged: `Closed`; `Refused` for limits that `new` would refuse, with its fault.
     pub fn raise_limits(&mut self, limits: &PeerLimits) -> Result<(), RaiseFault>
-        ensures { RaiseStep self.old limits.now result self.new }
+        ensures { EndStep self.old (RaiseLimits limits.now) result self.new }
     {
         if let Some(fault) = self.raise_refusal(limits) {
             return Err(fault);

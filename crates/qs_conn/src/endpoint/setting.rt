@@ -1,7 +1,8 @@
 //! What an application changes while the connection lasts. What the peer was given at first stays beside it: each sentence on first limits
 //! speaks of that.
 ghost use Rattle.std.specs.Prelude.{◌≡◌, true};
-ghost use Rattle.qs_machine.specs.Setting.{ConnWindow, Grant, SendBuffer, StreamWindow, SetStep, is_settable, no_half_to_set, with_setting};
+ghost use Rattle.qs_machine.specs.Setting.{ConnWindow, Grant, SendBuffer, StreamWindow, is_settable, no_half_to_set, with_setting};
+ghost use Rattle.qs_machine.specs.EndStep.{EndStep, Set};
 
 use super::Endpoint;
 use crate::setup::is_between;
@@ -15,7 +16,7 @@ impl Endpoint {
     ///
     /// Refused, and then unchanged: `Closed`; `OutOfRange` below 1 and above 2^40.
     pub fn set_conn_window(&mut self, window: u64) -> Result<(), SetFault>
-        ensures { SetStep self.old (ConnWindow window) result self.new }
+        ensures { EndStep self.old (Set (ConnWindow window)) result self.new }
     {
         if self.closed.is_some() {
             return Err(SetFault::Closed);
@@ -34,7 +35,7 @@ impl Endpoint {
     ///
     /// Refused, and then unchanged: `Closed`; `OutOfRange` above 2^17.
     pub fn set_grant(&mut self, dir: Dir, streams: u64) -> Result<(), SetFault>
-        ensures { SetStep self.old (Grant dir streams) result self.new }
+        ensures { EndStep self.old (Set (Grant dir streams)) result self.new }
     {
         if self.closed.is_some() {
             return Err(SetFault::Closed);
@@ -54,7 +55,7 @@ impl Endpoint {
     /// Refused, and then unchanged: `Closed`; `OutOfRange`; `NoSuchStream` or `WrongDirection` if the stream has no sending half.
     #[tactic(auto, using(crate::proofs::AckRuns::idle_with))]
     pub fn set_send_buffer(&mut self, stream: StreamId, size: usize) -> Result<(), SetFault>
-        ensures { SetStep self.old (SendBuffer stream size) result self.new }
+        ensures { EndStep self.old (Set (SendBuffer stream size)) result self.new }
     {
         if self.closed.is_some() {
             return Err(SetFault::Closed);
@@ -79,7 +80,7 @@ impl Endpoint {
     /// receiving half.
     #[tactic(auto, using(crate::proofs::Cores::kept_moved))]
     pub fn set_stream_window(&mut self, stream: StreamId, size: u64) -> Result<(), SetFault>
-        ensures { SetStep self.old (StreamWindow stream size) result self.new }
+        ensures { EndStep self.old (Set (StreamWindow stream size)) result self.new }
     {
         if self.closed.is_some() {
             return Err(SetFault::Closed);

@@ -1,9 +1,10 @@
 //! What became of a packet, by its number or its token.
 ghost use Rattle.std.specs.Prelude.{◌≡◌, ◌+◌, ◌-◌, ◌^◌, ◌<◌, true, None, OnOk, OnErr};
-ghost use Rattle.qs_machine.specs.Alone.{TokenAckedStep, TokenLostStep, LosesEach, LosesOne, token_of, gave, token_refusal, only};
+ghost use Rattle.qs_machine.specs.Alone.{LosesEach, LosesOne, token_of, gave, token_refusal, only};
 ghost use Rattle.qs_machine.specs.FrameStep.{frame_taken};
 ghost use Rattle.qs_machine.specs.Receiving.{RunsOut};
 ghost use Rattle.qs_machine.specs.Making.{LoseStep, lose_refusal};
+ghost use Rattle.qs_machine.specs.EndStep.{EndStep, TokenAcked, TokenLost};
 
 use super::Endpoint;
 use qs_calls::{LostFault, Token, TokenFault};
@@ -33,7 +34,7 @@ impl Endpoint {
     /// ```
     #[tactic(auto, using(crate::proofs::Asked::acked_refused, crate::proofs::Asked::acked_all, crate::proofs::Asked::acked_some))]
     pub fn acked(&mut self, token: Token) -> Result<(), TokenFault>
-        ensures { TokenAckedStep self.old token result self.new }
+        ensures { EndStep self.old (TokenAcked token) result self.new }
     {
         if let Some(fault) = self.token_refusal(token) {
             return Err(fault);
@@ -54,7 +55,7 @@ impl Endpoint {
     /// pieces may be lost already, and the call may be made again.
     #[tactic(auto, using(crate::proofs::Asked::lost_refused, crate::proofs::Asked::lost_told))]
     pub fn lost(&mut self, token: Token) -> Result<(), TokenFault>
-        ensures { TokenLostStep self.old token result self.new }
+        ensures { EndStep self.old (TokenLost token) result self.new }
     {
         if let Some(fault) = self.token_refusal(token) {
             return Err(fault);

@@ -7,4 +7,4 @@ use Rattle.qs_c.proofs.thing.Thing.consume.Goals as goal
 pub returns : goal.returns
 returns c =
     let small : is_small c.args.stream ≡ true = search rules in
-    tested (is_small c.args.stream) _ _ _ _ small (c.consume.result, c.of_consumed.ensures, same_step (λ e n. ConsumeStep e n c.args.most c.consume.result c.consume.new.self) c.self.inside.end c.args.self.now c.in-Some.id c.args.stream (search rules) (search rules) c.consume.ensures)
+    tested (is_small c.args.stream) _ _ _ _ small (c.consume.result, c.of_consumed.ensures, same_step (λ e n. ConsumeStep e n c.args.most c.consume.result c.consume.new.self) c.self.inside.end c.args.self.now c.in-Some.id c.args.stream (search rules) (search rules) c.consume.ensures.step)
