@@ -90,7 +90,7 @@ impl Run {
         }
     }
 
-    /// What can be done for good. No owner widens a window or a grant here, so nothing is granted beyond the first ones and what was taken.
+    /// What can be done for good. No window and no grant is set here, so nothing is added for those.
     fn most(&self) -> u64 {
         9 * self.written + 20 * self.opened + 6
     }
