@@ -165,40 +165,40 @@ fn leaves(way: Way, at: u64, past: u64) {
 
 #[test]
 fn streams_that_ended() {
-    says("keeps 50 bytes if both directions ended plainly, and 100 just past a power of two");
-    leaves(PLAIN, 50, 100);
+    says("keeps 53 bytes if both directions ended plainly, and 105 just past a power of two");
+    leaves(PLAIN, 53, 105);
     says("| its receive limit rose once, or more often | 16 | 32 |");
     let rose = Way {
         rose: true,
         ..PLAIN
     };
-    leaves(rose, 50 + 16, 100 + 32);
+    leaves(rose, 53 + 16, 105 + 32);
     says("| its sender was blocked once, or more often | 16 | 32 |");
     let blocked = Way {
         blocked: true,
         ..PLAIN
     };
-    leaves(blocked, 50 + 16, 100 + 32);
+    leaves(blocked, 53 + 16, 105 + 32);
     says("| reset by the peer | 64 | 64 |");
     let came = |came| Way { came, ..PLAIN };
-    leaves(came(Came::Reset), 50 + 64, 100 + 64);
+    leaves(came(Came::Reset), 53 + 64, 105 + 64);
     says("| stopped by its reader, then reset by the peer | 80 | 81 |");
-    leaves(came(Came::StoppedThenReset), 50 + 80, 100 + 81);
+    leaves(came(Came::StoppedThenReset), 53 + 80, 105 + 81);
     says("| stopped by `stop_and_discard` after all arrived | 248 | 248 |");
-    leaves(came(Came::Discarded), 50 + 248, 100 + 248);
+    leaves(came(Came::Discarded), 53 + 248, 105 + 248);
     says("| reset here, or stopped by the peer, before anything was written | 64 | 128 |");
     let sent = |sent| Way { sent, ..PLAIN };
-    leaves(sent(Sent::StoppedUnwritten), 50 + 64, 100 + 128);
+    leaves(sent(Sent::StoppedUnwritten), 53 + 64, 105 + 128);
     says("| the same once something was written | 248 | 312 |");
-    leaves(sent(Sent::Reset), 50 + 248, 100 + 312);
-    leaves(sent(Sent::Stopped), 50 + 248, 100 + 312);
+    leaves(sent(Sent::Reset), 53 + 248, 105 + 312);
+    leaves(sent(Sent::Stopped), 53 + 248, 105 + 312);
 }
 
 #[test]
 fn the_most_that_a_stream_leaves() {
-    says("Together that is at most 578, or 724 just past a power of two");
-    says("a peer can make it 394, or 541, for 36 bytes of payloads");
-    for (came, at, past) in [(Came::Discarded, 578, 724), (Came::Reset, 394, 541)] {
+    says("Together that is at most 581, or 729 just past a power of two");
+    says("a peer can make it 397, or 545, for 36 bytes of payloads");
+    for (came, at, past) in [(Came::Discarded, 581, 729), (Came::Reset, 397, 545)] {
         let way = Way {
             sent: Sent::Stopped,
             came,
@@ -207,11 +207,11 @@ fn the_most_that_a_stream_leaves() {
         };
         leaves(way, at, past);
     }
-    says("All 2^21 bidirectional streams: 105 MB if they end plainly, 1.2 GB at worst*");
+    says("All 2^21 bidirectional streams: 111 MB if they end plainly, 1.2 GB at worst*");
     let of_all = |each: u64| each << 21;
-    assert!(of_all(50) <= 105_000_000 && of_all(578) <= 1_220_000_000);
+    assert!(of_all(53) <= 111_200_000 && of_all(581) <= 1_220_000_000);
     // A few more than half as many leave no more than all do.
-    assert!(of_all(100) / 2 <= of_all(50) && of_all(724) / 2 <= of_all(578));
+    assert!(of_all(105) / 2 <= of_all(53) && of_all(729) / 2 <= of_all(581));
 }
 
 #[test]

@@ -11,13 +11,15 @@ use Rattle.qs_recv.specs.Lane.{RecvLane, is_whole as is_recv_whole, check_stream
 use Rattle.qs_recv.specs.Lawful.{IsLawful}
 use Rattle.qs_recv.specs.declared.credit.Share.TheVariants.{Half}
 use Rattle.qs_send.specs.declared.piece.Item.{Item}
-use Rattle.qs_machine.specs.Tables.{Tables, lookup, updated, no_streams, open_to, each, total, table, update}
+use Rattle.qs_machine.specs.Tables.{Tables, type_of, lookup, updated, no_streams, open_to, each, total, table, update}
 use Rattle.qs_machine.specs.Ends.{Present, first_window_by, End, is_uni, is_own, first_window, first_send_limit, opens, opened_by_peer, new_end, recv_lane, send_lane}
 use Rattle.qs_machine.specs.Verdicts.{or_new}
 use Rattle.qs_machine.specs.Standing.{KeepsCredit, HasLawfulLane, IsInCredit, IsWithinCredit}
 use Rattle.qs_machine.proofs.EndedHalves.{whole_stays, reset_stays_ended}
 use Rattle.qs_machine.proofs.LanesAgain.{data_after}
-use Rattle.qs_conn.specs.Due.{Packets, packets_of, AreDue, HasPlaces, IsNotedBlock, IsBlockedBy, put_mark, places_to, item_marked, kind_marked, due_without, recv_limit, limits_by}
+use Rattle.qs_conn.specs.Due.{Packets, packets_of, AreDue, IsDueWithout, IsItemMarked, IsMarkedIf, IsNotedBlock, IsBlockedBy, is_same, recv_limit, row_of}
+use Rattle.qs_conn.specs.declared.due.Kind.TheVariants as kinds
+use Rattle.qs_streams.specs.Flags.{HasMorePlaces, HasPlace, IsFlaggedAt}
 use Rattle.qs_conn.proofs.Untolds.{still_told, forgotten_told, told_updated as ends_told_updated, told_read as toldends_told_read, told_opened, told_raised, none_told, each_update, end_put}
 use Rattle.qs_send.specs.declared.piece.Item.TheVariants.{ResetStream, StreamDataBlocked}
 use Rattle.qs_recv.specs.Assembled.{discard, forget}
@@ -48,7 +50,6 @@ use Rattle.qs_calls.specs.declared.settings.PeerLimits.{PeerLimits}
 use Rattle.qs_calls.specs.declared.closing.Closed.{Closed}
 use Rattle.qs_machine.proofs.Taken.{sum_open}
 use Rattle.qs_conn.specs.declared.middle.Core.{Core}
-use Rattle.qs_conn.specs.declared.due.Due.{Due}
 use Rattle.qs_conn.specs.declared.due.Kind.{Kind}
 use Rattle.qs_conn.specs.Layers.{stop_to_tell}
 use Rattle.qs_conn.specs.Tasks.{IsFree, IsShort}
@@ -92,7 +93,7 @@ read_calmer : (l : RecvLane) (room : ℕ) → IsCalmer l (after_read l room)
 read_calmer l room = grind (arith, nat_tests)
 
 -- bytes came that passed the check
-pub due_streamed : {r : Role} {s : Settings} {recvs : Tables RecvLane} {sends : Tables SendLane} {q : Packets} {t : Due} → AreDue r s recvs sends q t → (p : Present) (g : ℕ) → KeepsCredit r s p recvs g → (now : Tables RecvLane) (n offset : ℕ) (bytes : List ℕ) (fin : Bool) → IsOk (check_stream (or_new (lookup recvs n) 0 Half) offset (length bytes) fin)
+pub due_streamed : {r : Role} {s : Settings} {recvs : Tables RecvLane} {sends : Tables SendLane} {q : Packets} {t : Tables (List ℕ)} → AreDue r s recvs sends q t → (p : Present) (g : ℕ) → KeepsCredit r s p recvs g → (now : Tables RecvLane) (n offset : ℕ) (bytes : List ℕ) (fin : Bool) → IsOk (check_stream (or_new (lookup recvs n) 0 Half) offset (length bytes) fin)
     → now ≡ updated recvs n (λ l. take_stream l offset bytes fin) (lookup recvs n) → AreDue r s now sends q t
 due_streamed {r} {s} h p g k now n offset bytes fin passed is =
     due_recv h now n (λ l. take_stream l offset bytes fin) is
@@ -307,12 +308,12 @@ pub core_outbox : (c : Core) → IsCore c → (next spare : ℕ) (o : Outgoing) 
 core_outbox c h next spare o is = subst (λ (x : Outgoing). IsCore (record c { outbox = x })) (sym is) (record { sound = h.sound; fits = h.fits; credit = h.credit; counts = h.counts; due = h.due; own = h.own })
 
 -- the sending side, its counts and the marks change; the receiving halves and the limits stay
-core_out : (c : Core) (h : IsCore c) (o : Outgoing) (t : Due) (ys : Kept) (e : ByDir ℕ) → sent_sum o.sends ≤ c.limits.known_data → AreAllCounted c.limits.role c.recvs o.sends e → AreDue c.limits.role c.limits.settings c.recvs o.sends (packets_of o) t → AreOwn c.limits (packets_of o) ys
+core_out : (c : Core) (h : IsCore c) (o : Outgoing) (t : Tables (List ℕ)) (ys : Kept) (e : ByDir ℕ) → sent_sum o.sends ≤ c.limits.known_data → AreAllCounted c.limits.role c.recvs o.sends e → AreDue c.limits.role c.limits.settings c.recvs o.sends (packets_of o) t → AreOwn c.limits (packets_of o) ys
     → IsCore (record c { outbox = o; due = t; own = ys; ended = e })
 core_out c h o t ys e credit counted due own = grind (arith, nat_tests)
 
 -- marks alone change
-core_marks : (c : Core) (h : IsCore c) (t : Due) → AreDue c.limits.role c.limits.settings c.recvs c.outbox.sends (packets_of c.outbox) t → IsCore (record c { due = t })
+core_marks : (c : Core) (h : IsCore c) (t : Tables (List ℕ)) → AreDue c.limits.role c.limits.settings c.recvs c.outbox.sends (packets_of c.outbox) t → IsCore (record c { due = t })
 core_marks c h t due = core_out c h c.outbox t c.own c.ended h.credit h.counts.counted due h.own
 
 module _ (c : Core) (h : IsAtRest c) where
@@ -322,7 +323,7 @@ module _ (c : Core) (h : IsAtRest c) where
   -- Sending halves
 
   -- a half changes, and sends no more
-  on_half : (n : ℕ) (f : SendLane → SendLane) (o : Outgoing) (t : Due) → o ≡ on_lane n f c.outbox → ((l : SendLane) → (f l).sent_end ≡ l.sent_end)
+  on_half : (n : ℕ) (f : SendLane → SendLane) (o : Outgoing) (t : Tables (List ℕ)) → o ≡ on_lane n f c.outbox → ((l : SendLane) → (f l).sent_end ≡ l.sent_end)
       → CountsFit c.limits.role c.limits.settings c.recvs (updated c.outbox.sends n f (lookup c.outbox.sends n)) c.ended c.limits.granted_streams.bidi c.limits.granted_streams.uni → AreDue c.limits.role c.limits.settings c.recvs (updated c.outbox.sends n f (lookup c.outbox.sends n)) (packets_of c.outbox) t
       → IsAtRest (record c { outbox = o; due = t })
   on_half n f o t is same counts due =
@@ -340,7 +341,7 @@ module _ (c : Core) (h : IsAtRest c) where
       on_half n (λ l. buffer_lane l size) o c.due is (λ l. refl) (fit_sent _ _ _ _ _ _ _ core.counts _ n (λ l. buffer_lane l size) refl (λ l there. refl))
       (due_send core.due _ n (λ l. buffer_lane l size) refl (λ l at. (record { told = λ v has. has; tells = λ m v tells. tells }, record { told = λ v has. has; tells = λ m v tells. tells })))
 
-  pub rest_written : (n count : ℕ) (bytes : List ℕ) (o : Outgoing) (t : Due) → refusal (or_none (lookup c.outbox.sends n)) ≡ None → o ≡ on_lane n (λ l. write_lane l bytes) c.outbox → length bytes ≡ count → IsNotedBlock (IsBlockedBy count (lookup o.sends n)) n c.due t → IsAtRest (record c { outbox = o; due = t })
+  pub rest_written : (n count : ℕ) (bytes : List ℕ) (o : Outgoing) (t : Tables (List ℕ)) → refusal (or_none (lookup c.outbox.sends n)) ≡ None → o ≡ on_lane n (λ l. write_lane l bytes) c.outbox → length bytes ≡ count → IsNotedBlock (IsBlockedBy count (lookup o.sends n)) n c.due t → IsAtRest (record c { outbox = o; due = t })
   rest_written n count bytes o t free is len noted =
       on_half n (λ l. write_lane l bytes) o t is (λ l. refl) (fit_written _ _ _ _ _ _ _ core.counts _ n bytes free refl)
       (due_written core.due _ n count bytes t refl len (subst (λ (x : Outgoing). IsNotedBlock (IsBlockedBy count (lookup x.sends n)) n c.due t) is noted))
@@ -351,22 +352,22 @@ module _ (c : Core) (h : IsAtRest c) where
       (due_send core.due _ n finish_lane refl (λ l at. (record { told = λ v has. has; tells = λ m v tells. tells }, record { told = λ v has. has; tells = λ m v tells. tells })))
 
   -- a half that is broken off has its reset to tell
-  pub rest_reset : (n code : ℕ) (o : Outgoing) (marks : Tables Bool) → answer_of (reset_refusal (or_none (lookup c.outbox.sends n))) ≡ Ok tt → o ≡ on_lane n (λ k. reset_lane k code) c.outbox → marks ≡ put_mark n true c.due.resets → IsAtRest (record c { outbox = o; due = record c.due { resets = marks } })
-  rest_reset n code o marks allowed is are =
-      rw are (on_half n (λ k. reset_lane k code) o _ is (reset_sends code) (fit_sent _ _ _ _ _ _ _ core.counts _ n (λ k. reset_lane k code) refl (λ k at. ends_as_reset code k))
-      (due_reset core.due _ n (λ k. reset_lane k code) refl (reset_keeps code) (reset_same code) false (sym (not_reset (or_none (lookup c.outbox.sends n)) allowed))))
+  pub rest_reset : (n code : ℕ) (o : Outgoing) (t : Tables (List ℕ)) → answer_of (reset_refusal (or_none (lookup c.outbox.sends n))) ≡ Ok tt → o ≡ on_lane n (λ k. reset_lane k code) c.outbox → IsFlaggedAt c.due (row_of kinds.ResetStream) n true t → IsAtRest (record c { outbox = o; due = t })
+  rest_reset n code o t allowed is set_at =
+      on_half n (λ k. reset_lane k code) o t is (reset_sends code) (fit_sent _ _ _ _ _ _ _ core.counts _ n (λ k. reset_lane k code) refl (λ k at. ends_as_reset code k))
+      (due_reset core.due _ n (λ k. reset_lane k code) t refl (reset_keeps code) (reset_same code) (λ none. set_at, λ some. absurd (true≢false (sym (not_reset (or_none (lookup c.outbox.sends n)) allowed) ∙ some))))
     where
-      not_reset : (l : SendLane) → answer_of (reset_refusal l) ≡ Ok tt → is_some l.was_reset ≡ false
+      not_reset : (l : SendLane) → answer_of (reset_refusal l) ≡ Ok tt → is_none l.was_reset ≡ true
       not_reset l allowed = grind (arith, nat_tests)
 
-  pub rest_told_to_stop : (answers : Bool) (n code : ℕ) (was : Option Reset) (o : Outgoing) (marks : Tables Bool) → was ≡ (or_none (lookup c.outbox.sends n)).was_reset → o ≡ on_lane n (λ k. stop_taken answers k code) c.outbox → marks ≡ (if is_some was then c.due.resets else put_mark n true c.due.resets) → IsAtRest (record c { outbox = o; due = record c.due { resets = marks } })
-  rest_told_to_stop answers n code was o marks reset is are =
-      rw are (on_half n (λ k. stop_taken answers k code) o _ is (stop_sends answers code) (fit_sent _ _ _ _ _ _ _ core.counts _ n (λ k. stop_taken answers k code) refl (λ k at. ends_as_stopped answers code k))
-      (due_reset core.due _ n (λ k. stop_taken answers k code) refl (stop_taken_keeps answers code) (stop_taken_same answers code) (is_some was) (ap is_some reset)))
+  pub rest_told_to_stop : (answers : Bool) (n code : ℕ) (was : Option Reset) (o : Outgoing) (t : Tables (List ℕ)) → was ≡ (or_none (lookup c.outbox.sends n)).was_reset → o ≡ on_lane n (λ k. stop_taken answers k code) c.outbox → IsMarkedIf (is_none was) (row_of kinds.ResetStream) n c.due t → IsAtRest (record c { outbox = o; due = t })
+  rest_told_to_stop answers n code was o t reset is marks =
+      on_half n (λ k. stop_taken answers k code) o t is (stop_sends answers code) (fit_sent _ _ _ _ _ _ _ core.counts _ n (λ k. stop_taken answers k code) refl (λ k at. ends_as_stopped answers code k))
+      (due_reset core.due _ n (λ k. stop_taken answers k code) t refl (stop_taken_keeps answers code) (stop_taken_same answers code) (subst (λ w. IsMarkedIf (is_none w) (row_of kinds.ResetStream) n c.due t) reset marks))
 
   -- Receiving halves
 
-  pub rest_recvs : (now : Tables RecvLane) (e : ByDir ℕ) (t : Due) → KeepsCredit c.limits.role c.limits.settings (present_of c.limits) now c.limits.granted
+  pub rest_recvs : (now : Tables RecvLane) (e : ByDir ℕ) (t : Tables (List ℕ)) → KeepsCredit c.limits.role c.limits.settings (present_of c.limits) now c.limits.granted
       → CountsFit c.limits.role c.limits.settings now c.outbox.sends e c.limits.granted_streams.bidi c.limits.granted_streams.uni → AreDue c.limits.role c.limits.settings now c.outbox.sends (packets_of c.outbox) t → IsAtRest (record c { recvs = now; due = t; ended = e })
   rest_recvs now e t sound counts due =
       record { core = record { sound = sound; fits = core.fits; credit = core.credit; counts = counts; due = due; own = core.own }; idle = h.idle }
@@ -379,47 +380,47 @@ module _ (c : Core) (h : IsAtRest c) where
       (fit_read _ _ _ _ _ _ _ core.counts _ _ core.sound now n size e was is after before behind to)
       (due_recv core.due now n (λ l. after_read l size) after (λ l there. read_calmer l size))
 
-  pub rest_stopped : (n code : ℕ) (was : Option ℕ) (now : Tables RecvLane) (marks : Tables Bool) → was ≡ stop_to_tell (lookup c.recvs n) → now ≡ updated c.recvs n (λ k. stop k code) (lookup c.recvs n) → marks ≡ (if is_some was then c.due.stops else put_mark n true c.due.stops) → IsAtRest (record c { recvs = now; due = record c.due { stops = marks } })
-  rest_stopped n code was now marks told after are =
-      rw (are, told) (rest_recvs now c.ended _ (rw after (sound_stop n code (end_with c.limits.role c.limits.settings (present_of c.limits) c.recvs c.limits.granted) core.sound))
-      (fit_stopped _ _ _ _ _ _ _ core.counts now n code after) (due_stopped core.due now n code after))
+  pub rest_stopped : (n code : ℕ) (was : Option ℕ) (now : Tables RecvLane) (t : Tables (List ℕ)) → was ≡ stop_to_tell (lookup c.recvs n) → now ≡ updated c.recvs n (λ k. stop k code) (lookup c.recvs n) → IsMarkedIf (is_none was) (row_of kinds.StopSending) n c.due t → IsAtRest (record c { recvs = now; due = t })
+  rest_stopped n code was now t told after marks =
+      rest_recvs now c.ended t (rw after (sound_stop n code (end_with c.limits.role c.limits.settings (present_of c.limits) c.recvs c.limits.granted) core.sound))
+      (fit_stopped _ _ _ _ _ _ _ core.counts now n code after) (due_stopped core.due now n code t after (subst (λ w. IsMarkedIf (is_none w) (row_of kinds.StopSending) n c.due t) told marks))
 
   -- a stream has another window
   pub rest_windowed : (n w : ℕ) (now : Tables RecvLane) → 1 ≤ w → w ≤ MAX_WINDOW → now ≡ updated c.recvs n (λ k. set_window k w) (lookup c.recvs n)
-      → (limits : Tables Bool) → limits ≡ limits_by (recv_limit c.recvs n) (recv_limit now n) n c.due.limits → IsAtRest (record c { recvs = now; due = record c.due { limits = limits } })
-  rest_windowed n w now some small after limits are =
-      rw are (rest_recvs now c.ended _ (rw after (sound_window n w (end_with c.limits.role c.limits.settings (present_of c.limits) c.recvs c.limits.granted) some small core.sound))
-      (fit_windowed _ _ _ _ _ _ _ core.counts now n w after) (due_windowed core.due now n w after))
+      → (t : Tables (List ℕ)) → IsMarkedIf (not (is_same (recv_limit c.recvs n) (recv_limit now n))) (row_of kinds.MaxStreamData) n c.due t → IsAtRest (record c { recvs = now; due = t })
+  rest_windowed n w now some small after t marks =
+      rest_recvs now c.ended t (rw after (sound_window n w (end_with c.limits.role c.limits.settings (present_of c.limits) c.recvs c.limits.granted) some small core.sound))
+      (fit_windowed _ _ _ _ _ _ _ core.counts now n w after) (due_windowed core.due now n w t after marks)
 
   -- a stream is stopped and forgotten, and counted anew
-  pub rest_forgotten : (n code : ℕ) (told : Option ℕ) (now : Tables RecvLane) (marks : Tables Bool) (e : ByDir ℕ) (was is : Bool) → told ≡ stop_to_tell (lookup c.recvs n) → now ≡ updated c.recvs n (λ k. stop_and_discard k code) (lookup c.recvs n) → marks ≡ (if is_some told then c.due.stops else put_mark n true c.due.stops)
-      → was ≡ is_over c.limits.role c.recvs c.outbox.sends n → is ≡ is_over c.limits.role now c.outbox.sends n → e ≡ recounted n was is c.ended → IsAtRest (record c { recvs = now; due = record c.due { stops = marks }; ended = e })
-  rest_forgotten n code told now marks e was is same after are before behind to =
-      rw (are, same) (rest_recvs now e _ (rw after (sound_forget n code (end_with c.limits.role c.limits.settings (present_of c.limits) c.recvs c.limits.granted) core.sound))
-      (fit_forgotten _ _ _ _ _ _ _ core.counts now n code e was is after before behind to) (due_discarded core.due now n code after))
+  pub rest_forgotten : (n code : ℕ) (told : Option ℕ) (now : Tables RecvLane) (t : Tables (List ℕ)) (e : ByDir ℕ) (was is : Bool) → told ≡ stop_to_tell (lookup c.recvs n) → now ≡ updated c.recvs n (λ k. stop_and_discard k code) (lookup c.recvs n) → IsMarkedIf (is_none told) (row_of kinds.StopSending) n c.due t
+      → was ≡ is_over c.limits.role c.recvs c.outbox.sends n → is ≡ is_over c.limits.role now c.outbox.sends n → e ≡ recounted n was is c.ended → IsAtRest (record c { recvs = now; due = t; ended = e })
+  rest_forgotten n code told now t e was is same after marks before behind to =
+      rest_recvs now e t (rw after (sound_forget n code (end_with c.limits.role c.limits.settings (present_of c.limits) c.recvs c.limits.granted) core.sound))
+      (fit_forgotten _ _ _ _ _ _ _ core.counts now n code e was is after before behind to) (due_discarded core.due now n code t after (subst (λ w. IsMarkedIf (is_none w) (row_of kinds.StopSending) n c.due t) same marks))
 
   -- Streams open
 
   pub rest_opened : (n w : ℕ) (share : Share) (limit buffer : ℕ) (no_send no_recv : Bool) (o : Outgoing) (now : Tables RecvLane) → o ≡ with_sends (cond no_send c.outbox.sends (open_to c.outbox.sends n (λ m. new_send_lane m limit buffer))) c.outbox
-      → now ≡ cond no_recv c.recvs (open_to c.recvs n (λ m. new_recv_lane w share)) → w ≡ first_window_by c.limits.role c.limits.settings n → (t : Due) → t ≡ places_to n c.due → IsAtRest (record c { outbox = o; recvs = now; due = t })
-  rest_opened n w share limit buffer no_send no_recv o now is after window t marks =
+      → now ≡ cond no_recv c.recvs (open_to c.recvs n (λ m. new_recv_lane w share)) → w ≡ first_window_by c.limits.role c.limits.settings n → ((k : ℕ) → type_of k ≡ type_of n → k ≤ n → HasPlace c.due k) → IsAtRest (record c { outbox = o; recvs = now })
+  rest_opened n w share limit buffer no_send no_recv o now is after window placed =
       let sum = sum_open c.outbox.sends n limit buffer no_send in
       let credit = core.credit in
-      subst (λ (x : Outgoing). IsAtRest (record c { outbox = x; recvs = now; due = t })) (sym is)
+      subst (λ (x : Outgoing). IsAtRest (record c { outbox = x; recvs = now })) (sym is)
       (record {
         core = record {
           sound = sound_opened c.limits.role c.limits.settings (present_of c.limits) c.recvs now c.limits.granted n w share no_recv core.sound window after;
           fits = core.fits;
           credit = omega (arith, sum, credit);
           counts = fit_opened _ _ _ _ _ _ _ core.counts now _ n w share limit buffer no_send no_recv refl after;
-          due = rw marks (due_opened core.due n limit buffer w share no_recv no_send now _ window after refl);
+          due = due_opened core.due n limit buffer w share no_recv no_send now _ placed window after refl;
           own = core.own;
         };
         idle = h.idle;
       })
 
   -- there are places for marks, and no stream opened
-  pub rest_placed : (t : Due) → HasPlaces c.due t → IsAtRest (record c { due = t })
+  pub rest_placed : (t : Tables (List ℕ)) → HasMorePlaces c.due t → IsAtRest (record c { due = t })
   rest_placed t wide = record { core = core_marks c core t (due_placed core.due t wide); idle = h.idle }
 
   -- Limits
@@ -457,12 +458,12 @@ module _ (c : Core) (h : IsAtRest c) where
 
   -- the first piece of a packet is lost
   pub rest_lost : (k : ℕ) (p : Piece) (o : Outgoing) → first_piece (fmap.get c.outbox.outstanding k) ≡ Some p → o ≡ first_lost_out k p c.outbox → IsIdle o
-      → AreApartIn c.outbox.outstanding → (t : Due) → t ≡ due_without p c.recvs o.sends c.due → IsAtRest (record c { outbox = o; due = t; own = own_left p c.own })
+      → AreApartIn c.outbox.outstanding → (t : Tables (List ℕ)) → IsDueWithout p c.recvs o.sends c.due t → IsAtRest (record c { outbox = o; due = t; own = own_left p c.own })
   rest_lost k p o first is idle apart t marks =
       let sends = sym (ap (λ (x : Outgoing). x.sends) is) in
       record {
         core = core_out c core o t (own_left p c.own) c.ended (subst (λ (x : Tables SendLane). sent_sum x ≤ c.limits.known_data) sends core.credit) (subst (λ (x : Tables SendLane). AreAllCounted c.limits.role c.recvs x c.ended) sends core.counts.counted)
-            (rw marks (due_lost c.outbox o core.due k p apart first is)) (own_lost k p c.limits c.outbox o c.own core.own apart first is);
+            (due_lost c.outbox o core.due k p t apart first is marks) (own_lost k p c.limits c.outbox o c.own core.own apart first is);
         idle = idle;
       }
 
@@ -474,22 +475,22 @@ module _ (c : Core) (h : IsCore c) where
   there = end_of c (new_end c.limits.role c.limits.settings c.limits.tuning (record { max_data = 0; bidi_local = 0; bidi_remote = 0; uni = 0; streams_bidi = 0; streams_uni = 0 }))
 
   -- a frame is put
-  core_put : (f : Seen) (o : Outgoing) → end_by c.limits c.recvs o there ≡ frame_put f there → sent_sum o.sends ≤ c.limits.known_data → (t : Due) → AreDue c.limits.role c.limits.settings c.recvs o.sends (packets_of o) t → (ys : Kept) → AreOwn c.limits (packets_of o) ys → IsCore (record c { outbox = o; due = t; own = ys })
+  core_put : (f : Seen) (o : Outgoing) → end_by c.limits c.recvs o there ≡ frame_put f there → sent_sum o.sends ≤ c.limits.known_data → (t : Tables (List ℕ)) → AreDue c.limits.role c.limits.settings c.recvs o.sends (packets_of o) t → (ys : Kept) → AreOwn c.limits (packets_of o) ys → IsCore (record c { outbox = o; due = t; own = ys })
   core_put f o is credit t due ys values = core_out c h o t ys c.ended credit (subst (λ (x : End). AreAllCounted c.limits.role x.recvs x.sends c.ended) (sym is) (put_counted c.limits.role there f c.ended h.counts.counted)) due values
 
   -- an item went in, or didn't fit
-  pub core_item : (i : Item) (before : List ℕ) (len : ℕ) (after : List ℕ) (end : ℕ) (o : Outgoing) (full : Bool) → PutsItem i before len c.outbox after end o full → (e : End) → IsCurrent (end_of c e) i
-      → IsCore (record c { outbox = o; due = if full then c.due else item_marked i false c.due; own = if full then c.own else own_with i c.own })
-  core_item i before len after end o true (same, text, out, long) e current = subst (λ (x : Outgoing). IsCore (record c { outbox = x })) (sym out) h
-  core_item i before len after end o false (text, out) e current =
+  pub core_item : (i : Item) (before : List ℕ) (len : ℕ) (after : List ℕ) (end : ℕ) (o : Outgoing) (full : Bool) (t : Tables (List ℕ)) → PutsItem i before len c.outbox after end o full → (e : End) → IsCurrent (end_of c e) i → (full ≡ true → t ≡ c.due) → (full ≡ false → IsItemMarked i false c.due t)
+      → IsCore (record c { outbox = o; due = t; own = if full then c.own else own_with i c.own })
+  core_item i before len after end o true t (same, text, out, long) e current stays marks = rw (stays refl) (subst (λ (x : Outgoing). IsCore (record c { outbox = x })) (sym out) h)
+  core_item i before len after end o false t (text, out) e current stays marks =
       let sum = sum_put i c.outbox in
       let credit = h.credit in
-      subst (λ (x : Outgoing). IsCore (record c { outbox = x; due = item_marked i false c.due; own = own_with i c.own })) (sym out)
+      subst (λ (x : Outgoing). IsCore (record c { outbox = x; due = t; own = own_with i c.own })) (sym out)
       (core_put (Control i) (item_put_out i c.outbox) (end_put c.limits c.recvs c.outbox there i) (omega (arith, sum, credit))
-      (item_marked i false c.due) (due_put c.limits c.recvs c.outbox e c.due h.due i current) (own_with i c.own) (own_put c.limits (packets_of c.outbox) c.own h.own c.outbox.next i (λ own. own_present c.limits c.recvs c.outbox e i own current)))
+      t (due_put c.limits c.recvs c.outbox e c.due t h.due i current (marks refl)) (own_with i c.own) (own_put c.limits (packets_of c.outbox) c.own h.own c.outbox.next i (λ own. own_present c.limits c.recvs c.outbox e i own current)))
 
   -- a chunk went in, and where it reached the stream's limit the stream has a mark
-  pub core_chunk : (n : ℕ) (chunk : Chunk) (bytes : List ℕ) (o : Outgoing) (half : Sending) (t : Due) (free : Bool) → o ≡ chunk_put n chunk c.outbox → length bytes ≡ chunk.len → sent_sum (chunk_put n chunk c.outbox).sends ≤ c.limits.known_data → HasSending c.outbox n half
+  pub core_chunk : (n : ℕ) (chunk : Chunk) (bytes : List ℕ) (o : Outgoing) (half : Sending) (t : Tables (List ℕ)) (free : Bool) → o ≡ chunk_put n chunk c.outbox → length bytes ≡ chunk.len → sent_sum (chunk_put n chunk c.outbox).sends ≤ c.limits.known_data → HasSending c.outbox n half
       → (free ≡ true → IsFree c.outbox n chunk) → (free ≡ false → IsShort c.outbox n) → (free ≡ true → t ≡ c.due) → (free ≡ false → IsNotedBlock (IsBlockedAt (lookup o.sends n)) n c.due t) → IsCore (record c { outbox = o; due = t })
   core_chunk n chunk bytes o half t free is count credit has at_free at_short same noted =
       let put = chunk_put n chunk c.outbox in
@@ -502,15 +503,15 @@ module _ (c : Core) (h : IsCore c) where
       c.own (own_chunk c.limits (packets_of c.outbox) c.own h.own c.outbox.next n chunk))
 
   -- a half of which nothing is due has a mark no more
-  pub core_cleared : (kind : Kind) (n : ℕ) (t : Due) → t ≡ kind_marked kind n false c.due → ((e : End) → IsIdleAt (end_of c e) (slot_at kind n)) → IsCore (record c { due = t })
-  core_cleared kind n t are idle = core_marks c h t (rw are (due_cleared c.limits c.recvs c.outbox there c.due h.due n kind (idle there)))
+  pub core_cleared : (kind : Kind) (n : ℕ) (t : Tables (List ℕ)) → IsFlaggedAt c.due (row_of kind) n false t → ((e : End) → IsIdleAt (end_of c e) (slot_at kind n)) → IsCore (record c { due = t })
+  core_cleared kind n t set_at idle = core_marks c h t (due_cleared c.limits c.recvs c.outbox there c.due h.due n kind (idle there) t set_at)
 
 pub fills_same : (c : Core) (out : List ℕ) (len own : ℕ) → IsFilling c out len → FillsOn c out len c out len own
 fills_same c out len own h =
     record { filling = h; memory = λ left. memory_less c (length out) len left (left - own) (omega arith); streams = streams_same c; ended = refl; rest = rest_same len out; room = refl }
 
 -- the packets and the marks alone moved
-pub fills_outbox : (c : Core) (o : Outgoing) (t : Due) (values : Kept) (xs ys : List ℕ) (i j own : ℕ) → IsCore (record c { outbox = o; due = t; own = values }) → j ≤ length ys
+pub fills_outbox : (c : Core) (o : Outgoing) (t : Tables (List ℕ)) (values : Kept) (xs ys : List ℕ) (i j own : ℕ) → IsCore (record c { outbox = o; due = t; own = values }) → j ≤ length ys
     → ((left : ℕ) → HasMemory c (length xs) i left → HasMemory (record c { outbox = o; due = t; own = values }) (length ys) j (left - own)) → LeavesRest i xs j ys → length ys ≡ length xs → FillsOn c xs i (record c { outbox = o; due = t; own = values }) ys j own
 fills_outbox c o t values xs ys i j own core within memory rest room = record { filling = record { core = core; within = within }; memory = memory; streams = record { limits = refl; recvs = refl }; ended = refl; rest = rest; room = room }
 
@@ -533,7 +534,7 @@ pub memory_six : (c : Core) (room len left : ℕ) → left ≤ 6 → HasMemory c
 memory_six c room len left le h = memory_less c room len 6 left le h
 
 -- marks alone moved
-pub fills_marks : (a b : Core) (t : Due) (out : List ℕ) (len : ℕ) → IsFilling a out len → IsCore b → b ≡ record a { due = t } → FillsOn a out len b out len 0
+pub fills_marks : (a b : Core) (t : Tables (List ℕ)) (out : List ℕ) (len : ℕ) → IsFilling a out len → IsCore b → b ≡ record a { due = t } → FillsOn a out len b out len 0
 fills_marks a b t out len h core is =
     record {
       filling = record { core = core; within = h.within };
@@ -565,7 +566,7 @@ module _ (c : Core) (peer : PeerLimits) (done : NumberSet) (is due : Bool) (clos
   kept_next now same rest next = record { rest = rest; peer_fits = k.peer_fits; closing_fits = k.closing_fits; few = k.few; acks = k.acks; settled = next }
 
   -- packets and sending halves move, and marks
-  pub kept_outbox : (o : Outgoing) (t : Due) → IsAtRest (record c { outbox = o; due = t }) → IsKept (record c { outbox = o; due = t }) peer done is due closed
+  pub kept_outbox : (o : Outgoing) (t : Tables (List ℕ)) → IsAtRest (record c { outbox = o; due = t }) → IsKept (record c { outbox = o; due = t }) peer done is due closed
   kept_outbox o t rest = kept_next _ is rest k.settled
 
   -- the limits, the receiving halves and the counts stay

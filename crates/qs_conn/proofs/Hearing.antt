@@ -13,7 +13,8 @@ use Rattle.qs_machine.specs.Tables.{Tables, type_of, lookup, table, index_of, up
 use Rattle.qs_machine.specs.Ends.{End, role_bit, is_uni, is_own, send_lane, recv_lane, on_send, on_recv, first_window_by}
 use Rattle.qs_machine.specs.News.{IsHeld, IsEnded, IsLeast, IsReadable, HasForPacket, IsSendable, IsWritable}
 use Rattle.qs_machine.specs.Heard.{is_told, Hearing, heard_opened, IsNews, IsNextOpened, IsFirstNews, ComesBefore, kind_of, subject_of, place_of, is_held_back, WasResetAcked, MayOpen, wants, TakesMemory, FirstTakesMemory}
-use Rattle.qs_conn.specs.Marks.{is_marked, both, untold, AreEndsMarked, IsBefore, IsMarkedOf, IsUntoldOf, least_of, IsUntold}
+use Rattle.qs_conn.specs.Marks.{is_marked, both, untold, AreEndsMarked, IsBefore, IsMarkedOf, IsUntoldOf, IsUntold}
+use Rattle.qs_streams.specs.Flags.{least_of}
 use Rattle.qs_conn.specs.Ended.{recv_over, send_over, IsToldOfEnd}
 use Rattle.qs_conn.specs.RecvTasks.{HasOne, HasNone, has_one}
 use Rattle.qs_conn.specs.Sending.{HasSent, IsDueOf, MayWrite, offered, let_go, front_of, credit_room, TakesAlone}

@@ -62,7 +62,6 @@ use Rattle.qs_machine.specs.Changes.{changes}
 use Rattle.qs_machine.specs.Verdicts.{or_else, state_fault_in, credit_fault, bytes_fault, lane_of, verdict}
 use Rattle.qs_conn.specs.Sending.{Tells, TellsDue, TellsItem, TellsWanted}
 use Rattle.qs_send.specs.declared.piece.Item.TheVariants.{MaxData, MaxStreams, DataBlocked, StreamsBlocked}
-use Rattle.qs_conn.specs.declared.due.Due.{Due}
 use Rattle.qs_conn.specs.declared.due.Kind.{Kind}
 use Rattle.qs_conn.specs.Tasks.{IsQuietAt}
 use Rattle.qs_conn.specs.OwnTold.{Kept}
@@ -674,7 +673,7 @@ pub memory_on : (c : Core) (room len room' len' left : ℕ) → room' ≡ room �
 memory_on c room len room' len' left same le h = elim h [ inl all ↦ inl (omega (arith, same, le, all)) | inr few ↦ inr few ]
 
 -- marks are no part of what is due
-pub memory_marks : (c : Core) (t : Due) (xs : Kept) (room len left : ℕ) → HasMemory c room len left → HasMemory (record c { due = t; own = xs }) room len left
+pub memory_marks : (c : Core) (t : Tables (List ℕ)) (xs : Kept) (room len left : ℕ) → HasMemory c room len left → HasMemory (record c { due = t; own = xs }) room len left
 memory_marks c t xs room len left h = elim h [ inl all ↦ inl all | inr (few, still) ↦ inr (few, record { no_item = still.no_item; no_stream = still.no_stream }) ]
 
 -- nor is the count of the memory
@@ -748,7 +747,7 @@ module _ (c : Core) (n : ℕ) (chunk : Chunk) (left fresh : ℕ) (a : Allowed c.
   pub chunk_spare : (room len own : ℕ) → HasMemory c room len own → HasOneSpare room len c.outbox.spare
   chunk_spare room len own h fits = elim h [ inl all ↦ omega (arith, all, fits) | inr (few, still) ↦ absurd (still_chunk still) ]
 
-  pub chunk_memory : (o : Outgoing) (t : Due) (room len room' end own : ℕ) → (HasSpare room len c.outbox.spare → HasSpare room' end o.spare) → HasMemory c room len own → HasMemory (record c { outbox = o; due = t }) room' end (own - 0)
+  pub chunk_memory : (o : Outgoing) (t : Tables (List ℕ)) (room len room' end own : ℕ) → (HasSpare room len c.outbox.spare → HasSpare room' end o.spare) → HasMemory c room len own → HasMemory (record c { outbox = o; due = t }) room' end (own - 0)
   chunk_memory o t room len room' end own spare h = elim h [ inl all ↦ inl (spare all) | inr (few, still) ↦ absurd (still_chunk still) ]
 
 -- how many items of the connection itself a slot has

@@ -10,7 +10,8 @@ use Rattle.std.proofs.lemmas.List.{length-append, length-replicate, get_or_past,
 use Rattle.std.proofs.lemmas.Option.{none-some, same_Some, get_or_from_slice_get, unwrap_or-slice_get, slice_get_within}
 use Rattle.std.specs.Result.{OnOk, OnErr}
 use Rattle.qs_conn.specs.Marks.{IsClear as IsUntoldClear}
-use Rattle.qs_conn.specs.Marks.{is_marked, IsUnmarked, AreClear, places, last_beside, one_has, TellWhich, AreMarksFor, HasRoom, IsClearedFrom, IsWider, IsBefore as IsMarkBefore, IsNextMark, IsMarkedOf, least_of, IsHeldOf, IsMarkedBeside, both, untold, IsUntold, HasNoMark, HasAllMarks, AreSummed, AreMarkedBelow, AreUnmarkedFrom, AreFull}
+use Rattle.qs_conn.specs.Marks.{is_marked, IsUnmarked, AreClear, places, last_beside, one_has, TellWhich, AreMarksFor, HasRoom, IsClearedFrom, IsWider, IsBefore as IsMarkBefore, IsNextMark, IsMarkedOf, IsHeldOf, IsMarkedBeside, both, untold, IsUntold, HasNoMark, HasAllMarks, AreSummed, AreMarkedBelow, AreUnmarkedFrom, AreFull}
+use Rattle.qs_streams.specs.Flags.{least_of}
 use Rattle.qs_machine.specs.Sums.{changed, tables_of}
 use Rattle.qs_machine.specs.Tables.{Tables, lookup, widened, type_of, table, no_streams}
 use Rattle.qs_machine.proofs.TableEdits.{lookup_is, with_is, table_is, opened_updated, opened_is}
@@ -267,11 +268,11 @@ pub none_least : (told : Tables Bool) (from : ℕ) → ((n : ℕ) (b : Bool) →
 none_least told from none = least_by (λ n. is_told told n ≡ true) from None (λ n is. absurd (none-some n is)) (λ n ge before. nowhere_told told none n)
 
 -- none before the least has a mark
-pub unmarked_before : (told : Tables Bool) (from : ℕ) (r : Option ℕ) → IsLeast (λ n. is_told told n ≡ true) from r → (n : ℕ) → from ≤ n → IsMarkBefore n r → is_told told n ≡ false
-unmarked_before told from r h n le before = go (is_told told n) refl
+pub off_before : (f : ℕ → Bool) (from : ℕ) (r : Option ℕ) → IsLeast (λ n. f n ≡ true) from r → (n : ℕ) → from ≤ n → IsMarkBefore n r → f n ≡ false
+off_before f from r h n le before = go (f n) refl
   where
-    go : (b : Bool) → is_told told n ≡ b → is_told told n ≡ false
-    go true is = absurd (none_before (λ m. is_told told m ≡ true) from r h n le before is)
+    go : (b : Bool) → f n ≡ b → f n ≡ false
+    go true is = absurd (none_before (λ m. f m ≡ true) from r h n le before is)
     go false is = is
 
 kind_told : (told : Tables Bool) (k : ℕ) (ms : List Bool) (from : ℕ) (r : Option ℕ) → ms ≡ table told k → IsLeast (IsMarkedOf ms k) from r → IsLeast (OfKind (λ n. is_told told n ≡ true) k) from r

@@ -1,7 +1,7 @@
 -- The values that are kept of the connection's own items tell which of them were told, as limits and records change.
 use Rattle.std.specs.FinMap as fmap
 use Rattle.std.proofs.lemmas.Bool.Decides.{nat_tests}
-use Rattle.std.proofs.Common.{arith, if◌then◌else◌, ◌≡◌, ◌≢◌, ℕ, Bool, true, false, ◌⊎◌, Option, None, Some, refl, sym, ap, ◌∙◌, subst, inl, inr, nat_cmp, ◌≤◌, ◌↔◌, IsTrue, Result, ◌<◌, nat_lt, length, zero, suc, replicate, slice_set, max}
+use Rattle.std.proofs.Common.{List, arith, if◌then◌else◌, ◌≡◌, ◌≢◌, ℕ, Bool, true, false, ◌⊎◌, Option, None, Some, refl, sym, ap, ◌∙◌, subst, inl, inr, nat_cmp, ◌≤◌, ◌↔◌, IsTrue, Result, ◌<◌, nat_lt, length, zero, suc, replicate, slice_set, max}
 use Rattle.std.proofs.lemmas.Bool.{cases_eq}
 use Rattle.std.proofs.lemmas.Option.{none-some, same_Some}
 use Rattle.qs_send.specs.declared.piece.Item.{Item}
@@ -12,7 +12,6 @@ use Rattle.qs_machine.specs.Ends.{Records, AckedItems, End, no_items}
 use Rattle.qs_machine.specs.Told.{IsNoted, item_noted}
 use Rattle.qs_machine.proofs.LostSent.{lost_carried}
 use Rattle.qs_send.proofs.Outstanding.{carried-without_first}
-use Rattle.qs_machine.specs.Heard.{is_told}
 use Rattle.qs_machine.specs.Outgoing.{AreApartIn, Apart, Outgoing, IsCarried, IsAckedOut, no_packets, items_acked, first_piece, first_acked_out, first_lost_out, acked_at}
 use Rattle.qs_machine.proofs.Apart.{gone_apart}
 use Rattle.qs_machine.proofs.Carried.{IsShorter, with_piece, carried_more, carried_new, carried_is, carried_before, carried_still, shortened_is}
@@ -20,7 +19,6 @@ use Rattle.qs_conn.proofs.Untolds.{acked_out}
 use Rattle.qs_conn.proofs.Dues.{came, first_is, told_same}
 use Rattle.qs_conn.proofs.DuePackets.{kind_tells, left_as, left_is, out_less, out_still}
 use Rattle.qs_conn.specs.Due.{AreDue, IsMarkedAt, IsToldIn, Packets, packets_of, marks_of}
-use Rattle.qs_conn.specs.declared.due.Due.{Due}
 use Rattle.qs_conn.specs.declared.due.Kind.{Kind}
 use Rattle.qs_conn.specs.declared.due.Slot.{Slot}
 use Rattle.qs_conn.specs.declared.due.Kind.TheVariants as kinds
@@ -389,7 +387,7 @@ not_acked : (r : Bool) (A : Type 0) → r ≡ false → IsTrue r ↔ A → A →
 not_acked r A off is a = grind (arith, nat_tests)
 
 -- and so do the marks of halves
-module _ (l : Limits) (recvs : Tables RecvLane) (o : Outgoing) (e : End) (xs : Kept) (t : Due) (h : AreOwn l (packets_of o) xs) (due : AreDue l.role l.settings recvs o.sends (packets_of o) t) (i : Item) (r : Bool) (on : has_own i xs ≡ true → r ≡ true) (acked : has_own i xs ≡ false → IsTrue r ↔ IsAckedOut o i) where
+module _ (l : Limits) (recvs : Tables RecvLane) (o : Outgoing) (e : End) (xs : Kept) (t : Tables (List ℕ)) (h : AreOwn l (packets_of o) xs) (due : AreDue l.role l.settings recvs o.sends (packets_of o) t) (i : Item) (r : Bool) (on : has_own i xs ≡ true → r ≡ true) (acked : has_own i xs ≡ false → IsTrue r ↔ IsAckedOut o i) where
   pub told_covered : IsCurrent (end_by l recvs o e) i → r ≡ true → IsCovered (end_by l recvs o e) i
   told_covered current is = go (has_own i xs) refl
     where
@@ -407,7 +405,7 @@ module _ (l : Limits) (recvs : Tables RecvLane) (o : Outgoing) (e : End) (xs : K
       ]
 
 -- a slot of a half with a mark
-pub marked_at : (t : Due) (kind : Kind) (n : ℕ) → is_told (marks_of kind t) n ≡ true → IsMarkedAt t (slot_at kind n)
+pub marked_at : (t : Tables (List ℕ)) (kind : Kind) (n : ℕ) → marks_of kind t n ≡ true → IsMarkedAt t (slot_at kind n)
 marked_at t kind n is = grind (arith, nat_tests)
 
 -- Refusals

@@ -1,6 +1,6 @@
 -- Of private contracts.
 -- Which control frames of streams may be due: a mark for each half and kind.
-use Rattle.std.specs.Prelude.{◌≡◌, ◌≤◌, ◌+◌, ◌<◌, ◌==◌, ℕ, List, Bool, true, false, if◌then◌else◌, Option, None, Some, ◌⊎◌, option_map}
+use Rattle.std.specs.Prelude.{◌≡◌, ◌≤◌, ◌+◌, ◌<◌, ◌==◌, ℕ, List, Bool, true, false, Option, None, Some, is_some, ◌⊎◌, option_map}
 use Rattle.qs_wire.specs.declared.stream_id.Role.{Role}
 use Rattle.qs_calls.specs.declared.settings.Settings.{Settings}
 use Rattle.qs_recv.specs.Lane.{RecvLane, is_whole}
@@ -14,15 +14,15 @@ use Rattle.qs_send.specs.declared.piece.Piece.TheVariants.{Data, Told}
 use Rattle.qs_machine.specs.Tables.{Tables, with_table, lookup, updated}
 use Rattle.qs_machine.specs.Ends.{Records, AckedItems, first_window_by}
 use Rattle.qs_machine.specs.Told.{IsNoted}
-use Rattle.qs_machine.specs.Heard.{is_told}
 use Rattle.qs_machine.specs.Outgoing.{Outgoing, IsBlockedAt}
 use Rattle.qs_machine.specs.Sums.{or_none}
-use Rattle.qs_conn.specs.declared.due.Due.{Due}
 use Rattle.qs_conn.specs.declared.due.Slot.{Slot}
 use Rattle.qs_conn.specs.declared.due.Kind.{Kind}
 use Rattle.qs_conn.specs.declared.due.Kind.TheVariants as kinds
 use Rattle.qs_conn.specs.Filling.{slot_at}
-use Rattle.qs_conn.specs.Marks.{places}
+use Rattle.qs_streams.specs.declared.board.Task.TheVariants as tasks
+use Rattle.qs_streams.specs.Flags.{HasPlace, IsFlaggedAt, MovesRow, flag}
+use Rattle.qs_streams.specs.Tasks.{row}
 
 -- What packets told
 
@@ -95,78 +95,65 @@ IsRight {L} {V} at Tells Within p n b l =
     × (b ≡ true → (v : V) → Tells n l v → IsCarried p.out (Told (at n v)) → ⊥)
     × (b ≡ false → (v : V) → Tells n l v → IsToldIn p (at n v))
 
--- So it is with each half, which has a place for a mark. Of a stream without one no packet told anything.
-abbrev pub IsRightAt : {L V : Type 0} → (ℕ → V → Item) → (ℕ → L → V → Type 0) → (L → V → Type 0) → Packets → ℕ → Option Bool → Option L → Type 0
+-- So it is with each half. Of a stream without one no packet told anything.
+abbrev pub IsRightAt : {L V : Type 0} → (ℕ → V → Item) → (ℕ → L → V → Type 0) → (L → V → Type 0) → Packets → ℕ → Bool → Option L → Type 0
 IsRightAt {L} {V} at Tells Within p n mark None = (v : V) → WasPut p (at n v) → ⊥
-IsRightAt {L} {V} at Tells Within p n None (Some l) = ⊥
-IsRightAt {L} {V} at Tells Within p n (Some b) (Some l) = IsRight at Tells Within p n b l
+IsRightAt {L} {V} at Tells Within p n mark (Some l) = IsRight at Tells Within p n mark l
 
-pub record AreRight {L V : Type 0} (at : ℕ → V → Item) (Tells : ℕ → L → V → Type 0) (Within : L → V → Type 0) (lanes : Tables L) (p : Packets) (marks : Tables Bool) : Type 0 where
-  pub each : (n : ℕ) → IsRightAt at Tells Within p n (lookup marks n) (lookup lanes n)
+pub record AreRight {L V : Type 0} (at : ℕ → V → Item) (Tells : ℕ → L → V → Type 0) (Within : L → V → Type 0) (lanes : Tables L) (p : Packets) (marks : ℕ → Bool) : Type 0 where
+  pub each : (n : ℕ) → IsRightAt at Tells Within p n (marks n) (lookup lanes n)
 
-pub record AreDue (r : Role) (s : Settings) (recvs : Tables RecvLane) (sends : Tables SendLane) (p : Packets) (t : Due) : Type 0 where
-  pub stops : AreRight StopSending TellsStop HasStop recvs p t.stops
-  pub limits : AreRight MaxStreamData (TellsLimit r s) IsWithinLimit recvs p t.limits
-  pub resets : AreRight reset_at TellsReset HasReset sends p t.resets
-  pub blocks : AreRight StreamDataBlocked TellsBlock HasBlocked sends p t.blocks
+-- the row of a kind
+abbrev pub row_of : Kind → ℕ
+row_of kinds.ResetStream = row tasks.ResetDue
+row_of kinds.StopSending = row tasks.StopDue
+row_of kinds.MaxStreamData = row tasks.LimitDue
+row_of kinds.StreamDataBlocked = row tasks.BlockDue
 
--- halves and the marks of their limits change, and right ones stay so, whatever packets told
-abbrev pub StayMarked : (recvs now : Tables RecvLane) → (marks new : Tables Bool) → Type 0
-StayMarked recvs now marks new =
-    (r : Role) (s : Settings) (p : Packets) → AreRight MaxStreamData (TellsLimit r s) IsWithinLimit recvs p marks → AreRight MaxStreamData (TellsLimit r s) IsWithinLimit now p new
+-- which streams have a mark of a kind
+abbrev pub marks_of : Kind → Tables (List ℕ) → ℕ → Bool
+marks_of kind rows n = flag rows (row_of kind) n
 
--- those of one type do, whatever the others are
-abbrev pub StayMarkedOf : (kind : ℕ) → (lanes now : List RecvLane) → (marks new : Tables Bool) → Type 0
-StayMarkedOf kind lanes now marks new = (t : Tables RecvLane) → StayMarked (with_table t kind lanes) (with_table t kind now) marks new
+-- each open half has a place for its marks
+abbrev pub HavePlaces : {L : Type 0} → Tables L → Tables (List ℕ) → Type 0
+HavePlaces lanes rows = (n : ℕ) → is_some (lookup lanes n) ≡ true → HasPlace rows n
 
--- the marks of a kind
-abbrev pub marks_of : Kind → Due → Tables Bool
-marks_of kinds.ResetStream t = t.resets
-marks_of kinds.StopSending t = t.stops
-marks_of kinds.MaxStreamData t = t.limits
-marks_of kinds.StreamDataBlocked t = t.blocks
+-- The marks of each kind are right, and each open half has a place for them.
+pub record AreDue (r : Role) (s : Settings) (recvs : Tables RecvLane) (sends : Tables SendLane) (p : Packets) (t : Tables (List ℕ)) : Type 0 where
+  pub stops : AreRight StopSending TellsStop HasStop recvs p (marks_of kinds.StopSending t)
+  pub limits : AreRight MaxStreamData (TellsLimit r s) IsWithinLimit recvs p (marks_of kinds.MaxStreamData t)
+  pub resets : AreRight reset_at TellsReset HasReset sends p (marks_of kinds.ResetStream t)
+  pub blocks : AreRight StreamDataBlocked TellsBlock HasBlocked sends p (marks_of kinds.StreamDataBlocked t)
+  pub recv_places : HavePlaces recvs t
+  pub send_places : HavePlaces sends t
 
 -- the slot of a half has a mark
-abbrev pub IsMarkedAt : Due → Slot → Type 0
-IsMarkedAt t slot = (kind : Kind) (n : ℕ) → slot ≡ slot_at kind n → is_told (marks_of kind t) n ≡ true
-
--- Places
-
--- places for marks may have come
-abbrev pub IsWidenedAt : Option Bool → Option Bool → Type 0
-IsWidenedAt b c = (b ≡ None) ⊎ (c ≡ b)
-
-abbrev pub IsWidened : Tables Bool → Tables Bool → Type 0
-IsWidened t u = (n : ℕ) → IsWidenedAt (lookup t n) (lookup u n)
-
-pub record HasPlaces (t u : Due) : Type 0 where
-  pub stops : IsWidened t.stops u.stops
-  pub limits : IsWidened t.limits u.limits
-  pub resets : IsWidened t.resets u.resets
-  pub blocks : IsWidened t.blocks u.blocks
-
--- there is a place for each stream beside one, and below
-abbrev pub places_to : ℕ → Due → Due
-places_to n t = record { stops = places n t.stops; limits = places n t.limits; resets = places n t.resets; blocks = places n t.blocks }
+abbrev pub IsMarkedAt : Tables (List ℕ) → Slot → Type 0
+IsMarkedAt t slot = (kind : Kind) (n : ℕ) → slot ≡ slot_at kind n → marks_of kind t n ≡ true
 
 -- Changes
 
--- the mark of a stream as it is to be
-abbrev pub put_mark : ℕ → Bool → Tables Bool → Tables Bool
-put_mark n b t = updated t n (λ x. b) (lookup t n)
+-- the mark of an item's stream and kind is set or cleared; an item of the connection itself has none
+abbrev pub IsItemMarked : Item → Bool → Tables (List ℕ) → Tables (List ℕ) → Type 0
+IsItemMarked (MaxStreamData n m) b old new = IsFlaggedAt old (row_of kinds.MaxStreamData) n b new
+IsItemMarked (StopSending n code) b old new = IsFlaggedAt old (row_of kinds.StopSending) n b new
+IsItemMarked (ResetStream n code size) b old new = IsFlaggedAt old (row_of kinds.ResetStream) n b new
+IsItemMarked (StreamDataBlocked n m) b old new = IsFlaggedAt old (row_of kinds.StreamDataBlocked) n b new
+IsItemMarked item b old new = new ≡ old
 
-abbrev pub kind_marked : Kind → ℕ → Bool → Due → Due
-kind_marked kinds.ResetStream n b t = record t { resets = put_mark n b t.resets }
-kind_marked kinds.StopSending n b t = record t { stops = put_mark n b t.stops }
-kind_marked kinds.MaxStreamData n b t = record t { limits = put_mark n b t.limits }
-kind_marked kinds.StreamDataBlocked n b t = record t { blocks = put_mark n b t.blocks }
+-- it is so where a test says so, and else nothing changes
+abbrev pub IsMarkedIf : Bool → ℕ → ℕ → Tables (List ℕ) → Tables (List ℕ) → Type 0
+IsMarkedIf test r n old new = (test ≡ true → IsFlaggedAt old r n true new) × (test ≡ false → new ≡ old)
 
-abbrev pub item_marked : Item → Bool → Due → Due
-item_marked (MaxStreamData n m) b t = record t { limits = put_mark n b t.limits }
-item_marked (StopSending n code) b t = record t { stops = put_mark n b t.stops }
-item_marked (ResetStream n code size) b t = record t { resets = put_mark n b t.resets }
-item_marked (StreamDataBlocked n m) b t = record t { blocks = put_mark n b t.blocks }
-item_marked _ b t = t
+-- halves and the marks of their limits change, and right ones stay so, whatever packets told; each has a place still
+abbrev pub StayMarked : (recvs now : Tables RecvLane) → (rows new : Tables (List ℕ)) → Type 0
+StayMarked recvs now rows new =
+    (r : Role) (s : Settings) (p : Packets) → HavePlaces recvs rows → AreRight MaxStreamData (TellsLimit r s) IsWithinLimit recvs p (marks_of kinds.MaxStreamData rows)
+    → AreRight MaxStreamData (TellsLimit r s) IsWithinLimit now p (marks_of kinds.MaxStreamData new) × MovesRow (row_of kinds.MaxStreamData) rows new × HavePlaces now new
+
+-- those of one type do, whatever the others are
+abbrev pub StayMarkedOf : (kind : ℕ) → (lanes now : List RecvLane) → (rows new : Tables (List ℕ)) → Type 0
+StayMarkedOf kind lanes now rows new = (t : Tables RecvLane) → StayMarked (with_table t kind lanes) (with_table t kind now) rows new
 
 -- whether it is the limit of an open half
 abbrev pub is_limit : Option ℕ → ℕ → Bool
@@ -182,10 +169,6 @@ abbrev pub is_same : Option ℕ → Option ℕ → Bool
 is_same (Some a) (Some b) = a == b
 is_same a b = false
 
--- the marks of limits once that of a half, which was one, is another or stayed
-abbrev pub limits_by : (was is : Option ℕ) → ℕ → Tables Bool → Tables Bool
-limits_by was is n t = if is_same was is then t else put_mark n true t
-
 -- whether an item has the present value of its half; a stop and a reset keep theirs
 abbrev pub is_present : Item → Tables RecvLane → Tables SendLane → Bool
 is_present (MaxStreamData n m) recvs sends = is_limit (recv_limit recvs n) m
@@ -193,14 +176,14 @@ is_present (StreamDataBlocked n m) recvs sends = is_limit (option_map (λ (l : S
 is_present _ recvs sends = true
 
 -- the marks once a piece was lost
-abbrev pub due_without : Piece → Tables RecvLane → Tables SendLane → Due → Due
-due_without (Data n c) recvs sends t = t
-due_without (Told i) recvs sends t = if is_present i recvs sends then item_marked i true t else t
+abbrev pub IsDueWithout : Piece → Tables RecvLane → Tables SendLane → Tables (List ℕ) → Tables (List ℕ) → Type 0
+IsDueWithout (Data n c) recvs sends old new = new ≡ old
+IsDueWithout (Told i) recvs sends old new = (is_present i recvs sends ≡ true → IsItemMarked i true old new) × (is_present i recvs sends ≡ false → new ≡ old)
 
 -- the last bytes that were written, so many, brought a stream to its limit with more written
 abbrev pub IsBlockedBy : (count : ℕ) → Option SendLane → ℕ → Type 0
 IsBlockedBy count o m = IsBlockedAt o m × ((or_none o).written ≤ m + count)
 
 -- the marks once a stream that came to its limit, if it did, has one for that
-abbrev pub IsNotedBlock : (ℕ → Type 0) → ℕ → Due → Due → Type 0
-IsNotedBlock P n old new = (((m : ℕ) → P m → ⊥) × (new ≡ old)) ⊎ (((m : ℕ) × P m) × (new ≡ record old { blocks = put_mark n true old.blocks }))
+abbrev pub IsNotedBlock : (ℕ → Type 0) → ℕ → (old new : Tables (List ℕ)) → Type 0
+IsNotedBlock P n old new = (((m : ℕ) → P m → ⊥) × (new ≡ old)) ⊎ (((m : ℕ) × P m) × IsFlaggedAt old (row_of kinds.StreamDataBlocked) n true new)

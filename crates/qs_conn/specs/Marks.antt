@@ -1,6 +1,6 @@
 -- Of private contracts.
 -- Which streams may have something to send or to tell: a mark for each index, and streams that have nothing.
-use Rattle.std.specs.Prelude.{◌≡◌, ℕ, ◌+◌, ◌*◌, ◌/◌, ◌%◌, ◌≤◌, ◌<◌, ◌⊎◌, length, map, Bool, true, false, not, ◌&&◌, List, [], ◌∷◌, slice_index_or, slice_get, slice_set, min, Option, None, Some}
+use Rattle.std.specs.Prelude.{◌≡◌, ℕ, ◌+◌, ◌*◌, ◌/◌, ◌%◌, ◌≤◌, ◌<◌, ◌⊎◌, length, map, Bool, true, false, not, ◌&&◌, List, [], ◌∷◌, slice_index_or, slice_get, slice_set, Option, None, Some}
 pub use Rattle.qs_ranges.specs.Bits.{IsBefore}
 use Rattle.qs_machine.specs.Tables.{Tables, type_of, widened, lookup, open_to}
 use Rattle.qs_machine.specs.Sums.{changed}
@@ -75,12 +75,6 @@ pub record IsClearedFrom (n : ℕ) (old new : List Bool) : Type 0 where
   pub len : length new ≡ length old
   pub kept : (i : ℕ) → i < n → is_marked new i ≡ is_marked old i
   pub none : (i : ℕ) → n ≤ i → is_marked new i ≡ false
-
--- the lesser of two answers
-abbrev pub least_of : Option ℕ → Option ℕ → Option ℕ
-least_of None b = b
-least_of (Some a) None = Some a
-least_of (Some a) (Some b) = Some (min a b)
 
 -- a stream of a type has its index marked
 abbrev pub IsMarkedOf : List Bool → ℕ → ℕ → Type 0

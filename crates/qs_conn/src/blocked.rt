@@ -6,9 +6,9 @@ ghost use Rattle.qs_machine.specs.Tables.{lookup};
 ghost use Rattle.qs_conn.specs.ByDir.{IsFirstDir};
 
 use crate::by_dir::ByDir;
-use crate::places::least_stream;
 use crate::told_streams::ToldStreams;
 use qs_ranges::NoMemory;
+use qs_streams::least_stream;
 use qs_wire::{Dir, StreamId};
 use std::alloc::Global;
 use std::marker::Model;

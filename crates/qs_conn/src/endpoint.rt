@@ -12,18 +12,17 @@ ghost use Rattle.qs_machine.specs.Standing.{IsWithinCredit};
 ghost use Rattle.qs_machine.specs.EndStep.{EndStep, Stored, Granted, GrantedStreams, Spent, ClosingPayload, NoteClosed};
 
 use crate::by_dir::ByDir;
-use crate::due::Due;
 use crate::held::Held;
 use crate::limits::Limits;
 use crate::middle::Core;
 use crate::outbox::Outbox;
 use crate::own_told::OwnTold;
-use crate::places::type_of;
 use crate::recv_tables::RecvTables;
 use crate::setup::{setup_fault, wide_setup_fault};
 use qs_calls::{Closed, Closing, NotedClose, PeerLimits, Settings, SetupFault, Share, Tuning};
 use qs_ranges::RangeSet;
 use qs_recv::{next_limit, step_of};
+use qs_streams::{Boards, type_of};
 use qs_wire::{Dir, Frame, Role, StreamId, put};
 use std::alloc::Global;
 use std::marker::Model;
@@ -167,7 +166,7 @@ impl Endpoint {
                 },
                 outbox: Outbox::new(alloc),
                 recvs: RecvTables::new(alloc),
-                due: Due::new(alloc),
+                due: Boards::new(alloc),
                 own: OwnTold::new(),
                 ended: ByDir::new(0, 0),
             },
@@ -253,7 +252,7 @@ impl Endpoint {
         if self.is_settled {
             return;
         }
-        self.core.recvs.raise_all(&mut self.core.due.limits);
+        self.core.recvs.raise_all(&mut self.core.due);
         let taken = self.core.recvs.tally().taken;
         let settings = &self.core.limits.settings;
         let step = self.core.limits.tuning.count_step;

@@ -17,7 +17,6 @@ mod newly_told;
 mod outbox;
 mod own_told;
 mod piece_room;
-mod places;
 mod recv_lanes;
 mod recv_marks;
 mod recv_tables;
@@ -25,7 +24,6 @@ mod seen;
 mod send_lanes;
 mod send_marks;
 mod setup;
-mod stream_marks;
 mod told;
 mod told_streams;
 

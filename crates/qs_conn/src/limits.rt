@@ -14,11 +14,11 @@ use crate::by_dir::ByDir;
 use crate::due::Slot;
 use crate::endpoint::{is_uni, role_bit};
 use crate::outbox::Outbox;
-use crate::places::type_of;
 use crate::recv_tables::RecvTables;
 use crate::send_marks::Task;
 use qs_calls::{MAX_VARINT, Settings, Tuning};
 use qs_send::Item;
+use qs_streams::type_of;
 use qs_wire::{Dir, Role, StreamId};
 
 /// An endpoint's role and settings, and the limits on the connection and on counts of streams: those that it granted, and those of its

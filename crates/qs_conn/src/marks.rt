@@ -1,12 +1,13 @@
 //! Which streams of one type may have something to send or to tell.
 ghost use Rattle.std.specs.Prelude.{List, Bool, None, ◌≡◌, ◌++◌, ◌+◌, ◌*◌, ◌-◌, ◌<◌, ◌≤◌, ◌^◌, ℕ, [], true, false, Some, length, slice_set, option_map, replicate, IfSome, OnOk, OnErr};
 ghost use Rattle.qs_machine.specs.News.{IsLeast};
-ghost use Rattle.qs_conn.specs.Marks.{IsClear, is_marked, HasRoom, IsClearedFrom, IsWider, IsNextMark, IsMarkedOf, AreSummed, AreUnmarkedFrom, least_of, both, untold};
+ghost use Rattle.qs_conn.specs.Marks.{IsClear, is_marked, HasRoom, IsClearedFrom, IsWider, IsNextMark, IsMarkedOf, AreSummed, AreUnmarkedFrom, both, untold};
+ghost use Rattle.qs_streams.specs.Flags.{least_of};
 
 use crate::bits::{Bits, Both, FLAGS_PER_WORD, Left, Row};
-use crate::places::index_from;
 use crate::told_streams::ToldMarks;
 use qs_ranges::{NoMemory, lowest_bit};
+use qs_streams::index_from;
 use std::alloc::Global;
 use std::marker::Model;
 

@@ -4,13 +4,12 @@ ghost use Rattle.qs_machine.specs.Tables.{table};
 ghost use Rattle.qs_conn.specs.Ended.{is_over};
 
 use crate::by_dir::ByDir;
-use crate::due::Due;
 use crate::endpoint::{is_uni, role_bit};
 use crate::limits::Limits;
 use crate::outbox::Outbox;
 use crate::own_told::OwnTold;
-use crate::places::type_of;
 use crate::recv_tables::RecvTables;
+use qs_streams::{Boards, type_of};
 use qs_wire::StreamId;
 
 mod acking;
@@ -25,7 +24,7 @@ pub(crate) struct Core {
     pub limits: Limits,
     pub outbox: Outbox,
     pub recvs: RecvTables,
-    pub due: Due,
+    pub due: Boards,
     pub own: OwnTold,
     pub ended: ByDir<u64>,
 }

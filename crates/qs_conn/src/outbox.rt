@@ -13,13 +13,13 @@ ghost use Rattle.qs_machine.specs.Outgoing.{AreApartIn, no_packets, with_sends, 
 
 use crate::held::sum_held;
 use crate::piece_room::PieceRoom;
-use crate::places::{index_of, type_of};
 use crate::send_lanes::{SendLanes, Setting};
 use crate::send_marks::{Moves, Task};
 use crate::told::ToldItems;
 use halves::{half_of, is_open};
 use qs_ranges::NoMemory;
 use qs_send::{LostRecords, Piece, Records, SendFault, SendState, SendView};
+use qs_streams::{index_of, type_of};
 use qs_wire::StreamId;
 use std::alloc::Global;
 use std::marker::Model;

@@ -14,10 +14,10 @@ ghost use Rattle.qs_conn.specs.Marks.{is_marked};
 use crate::held::{Holds, sum_held};
 use crate::marks::Marks;
 use crate::recv_marks::{RecvMarks, RecvTask};
-use crate::stream_marks::StreamMarks;
 use qs_machine::Tally;
 use qs_ranges::NoMemory;
 use qs_recv::{RecvHalf, RingAssembly, Share};
+use qs_streams::{Boards, Task};
 use qs_wire::StreamId;
 use std::alloc::Global;
 use std::marker::Model;
@@ -167,7 +167,7 @@ impl RecvLanes {
 
     /// A stream whose limit rises is marked: the new one is in no packet yet.
     #[inline]
-    pub(crate) fn raise_all(&mut self, stream_type: usize, limits: &mut StreamMarks)
+    pub(crate) fn raise_all(&mut self, stream_type: usize, limits: &mut Boards)
         requires { stream_type < 4 }
         ensures after { self.new ≡ map raise self.old }
         ensures marked { StayMarkedOf stream_type self.old self.new limits.old limits.new }
@@ -247,12 +247,7 @@ fn moved(total: Tally, was: Tally, is: Tally) -> Tally
 
 // Apart, so that a call after which no limit rises pays for one look.
 #[inline(never)]
-fn raise_marked(
-    halves: &mut Vec<Half>,
-    rising: &mut Marks,
-    stream_type: usize,
-    limits: &mut StreamMarks,
-)
+fn raise_marked(halves: &mut Vec<Half>, rising: &mut Marks, stream_type: usize, limits: &mut Boards)
     requires stream_type { stream_type < 4 }
     requires few { length halves.old.items ≤ 2 ^ 60 }
     requires settled { AreSettled rising.old halves.old.items }
@@ -270,7 +265,7 @@ fn raise_marked(
 }
 
 #[tactic(auto, using(crate::proofs::LaneEdits::changed_at))]
-fn raise_at(halves: &mut Vec<Half>, index: usize, stream_type: usize, limits: &mut StreamMarks)
+fn raise_at(halves: &mut Vec<Half>, index: usize, stream_type: usize, limits: &mut Boards)
     requires there { index < length halves.old.items }
     requires stream_type { stream_type < 4 }
     requires few { length halves.old.items ≤ 2 ^ 60 }
@@ -281,6 +276,6 @@ fn raise_at(halves: &mut Vec<Half>, index: usize, stream_type: usize, limits: &m
     let half = &mut halves[index];
     if let Some(_limit) = half.raise() {
         let stream = StreamId::new((index * 4 + stream_type) as u64).unwrap();
-        limits.set(stream, true);
+        limits.set(Task::LimitDue, stream, true);
     }
 }

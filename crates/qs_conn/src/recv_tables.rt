@@ -18,15 +18,14 @@ ghost use Rattle.qs_conn.specs.RecvTasks.{HasOne, HasNone, has_one};
 
 use crate::held::sum_held;
 use crate::marks::Marks;
-use crate::places::{Place, index_of, least_stream, type_of};
 use crate::recv_lanes::{Half, RecvLanes};
 use crate::recv_marks::RecvTask;
-use crate::stream_marks::StreamMarks;
 use crate::told_streams::ToldStreams;
 use qs_calls::RecvReport;
 use qs_machine::Tally;
 use qs_ranges::NoMemory;
 use qs_recv::{Read, RecvState, Share};
+use qs_streams::{Boards, Place, index_of, least_stream, type_of};
 use qs_wire::StreamId;
 use std::alloc::Global;
 use std::marker::Model;
@@ -357,7 +356,7 @@ impl RecvTables {
         sum_held(&self.types)
     }
 
-    pub(crate) fn raise_all(&mut self, limits: &mut StreamMarks)
+    pub(crate) fn raise_all(&mut self, limits: &mut Boards)
         ensures after { self.new ≡ each raise self.old }
         ensures marked { StayMarked self.old self.new limits.old limits.new }
     {

@@ -6,10 +6,10 @@ ghost use Rattle.qs_machine.specs.Seen.{seen, asks_ack};
 ghost use Rattle.qs_machine.specs.Alone.{is_ours};
 ghost use Rattle.qs_conn.specs.Seen.{view_seen, SeenFits};
 
-use crate::places::Place;
 use SeenFrame::{Ack, Close, Control, Plain, Stream};
 use qs_calls::MAX_VARINT;
 use qs_send::Item;
+use qs_streams::Place;
 use qs_wire::{Dir, Frame};
 
 const MAX_STREAMS: u64 = 1 << 60;

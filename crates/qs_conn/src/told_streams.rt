@@ -6,8 +6,8 @@ ghost use Rattle.qs_conn.specs.Marks.{IsClear, is_marked, IsMarkedBeside, IsUnma
 
 use crate::bits::{Bits, FLAGS_PER_WORD, Row};
 use crate::marks::Marks;
-use crate::places::{index_of, type_of};
 use qs_ranges::{NoMemory, lowest_bit};
+use qs_streams::{index_of, type_of};
 use qs_wire::StreamId;
 use std::alloc::Global;
 use std::marker::Model;

@@ -19,13 +19,14 @@ use std::process::ExitCode;
 use std::{env, fs};
 
 /// The crates of the library. Only in these do short functions become `#[inline]`, since a user's crate calls them.
-const LIBRARY: [&str; 7] = [
+const LIBRARY: [&str; 8] = [
     "qs_wire",
     "qs_ranges",
     "qs_recv",
     "qs_send",
     "qs_calls",
     "qs_machine",
+    "qs_streams",
     "qs_conn",
 ];
 

@@ -24,4 +24,5 @@ pub(crate) mod qs_machine;
 pub(crate) mod qs_ranges;
 pub(crate) mod qs_recv;
 pub(crate) mod qs_send;
+pub(crate) mod qs_streams;
 pub(crate) mod qs_wire;

@@ -14,11 +14,11 @@ ghost use Rattle.qs_machine.specs.EndStep.{EndStep, TakeFrame, TakeFrames};
 use super::receiving::noted_of_us;
 use super::{Endpoint, is_uni};
 use crate::newly_told::Silent;
-use crate::places::Place;
 use crate::seen::{SeenFrame, has_text, is_ours, seen, type_number};
 use qs_calls::{Closed, Closer, Closing, NotedClose, TakeFault, Taken};
 use qs_recv::RecvState;
 use qs_send::Item;
+use qs_streams::Place;
 use qs_wire::{Frame, StreamId};
 
 // A payload can't hold such values, so the reader has no word for it (RFC 9000, section 20.1).

@@ -7,9 +7,9 @@ ghost use Rattle.qs_machine.specs.Sums.{or_none};
 ghost use Rattle.qs_conn.specs.Sending.{credit_room};
 
 use super::Endpoint;
-use crate::places::Place;
 use qs_calls::{Closed, MAX_VARINT, NotedClose, UseFault};
 use qs_recv::Peek;
+use qs_streams::Place;
 use qs_wire::{Dir, StreamId};
 
 impl Endpoint {

@@ -10,11 +10,11 @@ ghost use Rattle.qs_machine.specs.Verdicts.{or_else, ack_fault, state_fault_in, 
 ghost use Rattle.qs_conn.specs.Seen.{view_seen, SeenFits, Judges};
 
 use super::{Endpoint, is_uni, role_bit};
-use crate::places::Place;
 use crate::recv_lanes::Half;
 use crate::seen::SeenFrame;
 use qs_recv::{Highest, RecvFault};
 use qs_send::Item;
+use qs_streams::Place;
 use qs_wire::StreamId;
 
 const FLOW_CONTROL_ERROR: u64 = 0x03;

@@ -13,11 +13,11 @@ ghost use Rattle.qs_conn.specs.Sending.{TakesAlone};
 
 use super::Endpoint;
 use crate::by_dir::ByDir;
-use crate::places::{index_of, lesser, type_of};
 use crate::recv_marks::RecvTask;
 use crate::send_marks::{Search, Task};
 use crate::told_streams::ToldStreams;
 use qs_calls::MAX_VARINT;
+use qs_streams::{index_of, lesser, type_of};
 use qs_wire::{Dir, StreamId};
 
 impl Endpoint {

@@ -5,9 +5,9 @@ ghost use Rattle.qs_conn.specs.Marks.{AreEndsMarked, IsUntold, IsUntoldOf, both}
 
 use super::{Endpoint, role_bit};
 use crate::marks::Marks;
-use crate::places::least_stream;
 use crate::recv_marks::RecvTask;
 use crate::told_streams::ToldStreams;
+use qs_streams::least_stream;
 use qs_wire::StreamId;
 
 impl Endpoint {

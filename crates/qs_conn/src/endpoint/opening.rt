@@ -13,10 +13,10 @@ ghost use Rattle.qs_machine.specs.EndStep.{EndStep, AcceptOf};
 
 use super::{Endpoint, is_uni, role_bit};
 use crate::outbox::Outbox;
-use crate::places::type_of;
 use crate::recv_tables::RecvTables;
 use qs_calls::{OpenFault, Share};
 use qs_ranges::NoMemory;
+use qs_streams::type_of;
 use qs_wire::{Dir, StreamId};
 
 impl Endpoint {
@@ -99,7 +99,7 @@ impl Endpoint {
         let buffer = self.send_buffer();
         self.core.outbox.learn_of_open();
         let before = self.core.outbox.count_of(type_of(stream));
-        self.core.due.open_to(stream)?;
+        self.core.due.make_room(stream)?;
         open_sends(&mut self.core.outbox, uni & !own, limit, buffer, stream)?;
         if let Err(refused) = open_recvs(&mut self.core.recvs, uni & own, window, share, stream) {
             self.core.outbox.close_to(stream, before);

@@ -16,6 +16,7 @@ use super::Endpoint;
 use qs_calls::{Closed, Closing, Consumed, LaneReport, SendReport, UseFault};
 use qs_recv::Read;
 use qs_send::SendFault;
+use qs_streams::Task;
 use qs_wire::StreamId;
 
 impl Endpoint {
@@ -101,7 +102,7 @@ impl Endpoint {
         }
         match self.core.outbox.reset(stream, code) {
             Ok(()) => {
-                self.core.due.resets.set(stream, true);
+                self.core.due.set(Task::ResetDue, stream, true);
                 self.settle();
                 Ok(())
             }

@@ -16,10 +16,10 @@ ghost use Rattle.qs_conn.specs.Seen.{view_seen, SeenFits};
 
 use super::Endpoint;
 use crate::newly_told::Told;
-use crate::places::{Place, type_of};
 use crate::seen::SeenFrame;
 use qs_ranges::NoMemory;
 use qs_send::Item;
+use qs_streams::{Place, type_of};
 use qs_wire::{Dir, StreamId};
 
 impl Endpoint {

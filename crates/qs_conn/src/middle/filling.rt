@@ -6,7 +6,6 @@ ghost use Rattle.qs_send.specs.declared.piece.Piece.{Piece};
 ghost use Rattle.qs_machine.specs.Tables.{lookup};
 ghost use Rattle.qs_machine.specs.Due.{StreamGoes};
 ghost use Rattle.qs_machine.specs.Outgoing.{IsBlockedAt, sent_sum};
-ghost use Rattle.qs_machine.specs.Heard.{is_told};
 ghost use Rattle.qs_conn.specs.Due.{IsMarkedAt, IsNotedBlock, marks_of};
 ghost use Rattle.qs_machine.specs.Ends.{End};
 ghost use Rattle.qs_machine.specs.Filling.{IsAsked};
@@ -17,14 +16,15 @@ ghost use Rattle.qs_conn.specs.Marks.{IsBefore, IsIdle};
 ghost use Rattle.qs_conn.specs.Tasks.{IsOpen, going_task};
 
 use super::Core;
-use crate::due::{Due, Kind, Slot};
+use crate::due::{Kind, Slot};
 use crate::filling::{
     Course, LEAST_STREAM_FRAME, Packet, Wish, cut_to, full_at, put_ack_if, put_chunk, put_item,
 };
 use crate::outbox::Outbox;
 use crate::own_told::OWN_ITEMS;
-use crate::send_marks::Task;
+use crate::send_marks::Task as SendTask;
 use qs_ranges::RangeSet;
+use qs_streams::{Boards, Task};
 use qs_wire::{Dir, StreamId};
 
 impl Core {
@@ -65,7 +65,7 @@ impl Core {
         requires { IsCore self.now }
         ensures { result ≡ true → IsStill self.now }
     {
-        if self.outbox.may_have(Task::Bytes) {
+        if self.outbox.may_have(SendTask::Bytes) {
             return false;
         }
         if self.may_tell(Kind::ResetStream) {
@@ -144,7 +144,7 @@ impl Core {
             if packet.is_full {
                 return packet;
             }
-            self.due.clear(kind, stream);
+            self.due.set(kind.task(), stream, false);
             from = stream.value() + 1;
         }
         packet
@@ -155,16 +155,16 @@ impl Core {
         requires { IsCore self.now }
         ensures { result ≡ false → (n : ℕ) (e : End) → IsIdle (end_of self.now e) (slot_at kind n) }
     {
-        self.due.marks(kind).may_have()
+        self.due.may_have(kind.task())
     }
 
     pub(super) fn next_marked(&self, kind: Kind, from: u64) -> Option<StreamId>
         requires core { IsCore self.now }
         requires from { from ≤ 2 ^ 62 }
-        ensures found { IfSome result (λ n. (from ≤ n) × (is_told (marks_of kind self.now.due) n ≡ true)) }
+        ensures found { IfSome result (λ n. (from ≤ n) × (marks_of kind self.now.due n ≡ true)) }
         ensures idle { (n : ℕ) (e : End) → from ≤ n → IsBefore n result → IsIdle (end_of self.now e) (slot_at kind n) }
     {
-        self.due.marks(kind).next(from)
+        self.due.next(kind.task(), from)
     }
 
     #[tactic(auto, using(crate::proofs::Cores::fills_same))]
@@ -263,13 +263,13 @@ impl Core {
     /// While the connection's credit is used up, only bytes that were sent before may go (RFC 9000, section 4.1): streams with new ones are
     /// passed over by their marks.
     #[inline(always)]
-    pub(super) fn going_task(&self) -> Task
+    pub(super) fn going_task(&self) -> SendTask
         ensures { result ≡ going_task (sent_sum self.now.outbox.sends) self.now.limits.known_data }
     {
         if self.outbox.sent_sum() < self.limits.known_data {
-            return Task::Bytes;
+            return SendTask::Bytes;
         }
-        Task::Again
+        SendTask::Again
     }
 
     #[tactic(auto, using(crate::proofs::Cores::fills_same, crate::proofs::Flows::flow_none))]
@@ -342,7 +342,7 @@ impl Core {
 
 // Unless the chunk itself showed that no limit holds the stream back, or that it did before.
 #[inline(always)]
-fn look_unless_free(due: &mut Due, outbox: &Outbox, stream: StreamId, is_free: bool)
+fn look_unless_free(due: &mut Boards, outbox: &Outbox, stream: StreamId, is_free: bool)
     ensures free { is_free ≡ true → due.new ≡ due.old }
     ensures noted { is_free ≡ false → IsNotedBlock (IsBlockedAt (lookup outbox.now.sends stream)) stream due.old due.new }
 {
@@ -350,7 +350,7 @@ fn look_unless_free(due: &mut Due, outbox: &Outbox, stream: StreamId, is_free: b
         return;
     }
     if outbox.blocked_at(stream).is_some() {
-        due.blocks.set(stream, true);
+        due.set(Task::BlockDue, stream, true);
     }
 }
 

@@ -1,35 +1,41 @@
 //! What falls due as values rise, and what is due no more as it goes out.
-ghost use Rattle.std.specs.Prelude.{if◌then◌else◌, ◌≡◌, ◌≤◌, is_some, true, false};
+ghost use Rattle.std.specs.Prelude.{if◌then◌else◌, ◌≡◌, ◌≤◌, is_none, is_some, not, true, false};
 ghost use Rattle.qs_ranges.specs.Numbers.{MAX_VARINT};
 ghost use Rattle.qs_recv.specs.Lane.{MAX_WINDOW, set_window};
 ghost use Rattle.qs_send.specs.Lane.{allow_lane};
 ghost use Rattle.qs_machine.specs.Tables.{lookup, updated};
 ghost use Rattle.qs_machine.specs.Outgoing.{on_lane};
-ghost use Rattle.qs_conn.specs.Due.{IsBlockedBy, IsNotedBlock, item_marked, due_without, is_present, is_same, limits_by, put_mark, recv_limit};
+ghost use Rattle.qs_conn.specs.Due.{IsBlockedBy, IsDueWithout, IsItemMarked, IsMarkedIf, IsNotedBlock, is_present, is_same, recv_limit, row_of};
+ghost use Rattle.qs_conn.specs.declared.due.Kind.TheVariants as kinds;
 ghost use Rattle.qs_conn.specs.OwnTold.{own_with, own_left};
 ghost use Rattle.qs_conn.specs.Middle.{IsAtRest, KeepsStreams};
 
 use super::Core;
+use crate::due::mark;
 use qs_send::{Item, Piece, Reset};
+use qs_streams::Task;
 use qs_wire::StreamId;
 
 impl Core {
     pub(super) fn note_put(&mut self, item: &Item, is_full: bool)
-        ensures { self.new ≡ record self.old { due = if is_full then self.old.due else item_marked item.now false self.old.due; own = if is_full then self.old.own else own_with item.now self.old.own } }
+        ensures same { self.new ≡ record self.old { due = self.new.due; own = if is_full then self.old.own else own_with item.now self.old.own } }
+        ensures full { is_full ≡ true → self.new.due ≡ self.old.due }
+        ensures put { is_full ≡ false → IsItemMarked item.now false self.old.due self.new.due }
     {
         if !is_full {
-            self.due.set(item, false);
+            mark(&mut self.due, item, false);
             self.own.insert(item);
         }
     }
 
     /// A lost piece that has the present value of its half is due again; of an older one nothing is.
     pub(super) fn note_lost(&mut self, piece: &Piece)
-        ensures { self.new ≡ record self.old { due = due_without piece.now self.old.recvs self.old.outbox.sends self.old.due; own = own_left piece.now self.old.own } }
+        ensures same { self.new ≡ record self.old { due = self.new.due; own = own_left piece.now self.old.own } }
+        ensures marked { IsDueWithout piece.now self.old.recvs self.old.outbox.sends self.old.due self.new.due }
     {
         if let Piece::Told(item) = piece {
             if self.is_present(item) {
-                self.due.set(item, true);
+                mark(&mut self.due, item, true);
             }
             self.own.remove(item);
         }
@@ -47,25 +53,27 @@ impl Core {
             return;
         };
         if half.written() - limit <= count as u64 {
-            self.due.blocks.set(stream, true);
+            self.due.set(Task::BlockDue, stream, true);
         }
     }
 
     /// A stop falls due if there was none to send.
     pub(crate) fn note_stop(&mut self, stream: StreamId, was: Option<u64>)
-        ensures { self.new ≡ record self.old { due = record self.old.due { stops = if is_some was then self.old.due.stops else put_mark stream true self.old.due.stops } } }
+        ensures same { self.new ≡ record self.old { due = self.new.due } }
+        ensures marked { IsMarkedIf (is_none was) (row_of kinds.StopSending) stream self.old.due self.new.due }
     {
         if was.is_none() {
-            self.due.stops.set(stream, true);
+            self.due.set(Task::StopDue, stream, true);
         }
     }
 
     /// A reset falls due if there was none.
     pub(crate) fn note_reset(&mut self, stream: StreamId, was: Option<Reset>)
-        ensures { self.new ≡ record self.old { due = record self.old.due { resets = if is_some was then self.old.due.resets else put_mark stream true self.old.due.resets } } }
+        ensures same { self.new ≡ record self.old { due = self.new.due } }
+        ensures marked { IsMarkedIf (is_none was) (row_of kinds.ResetStream) stream self.old.due self.new.due }
     {
         if was.is_none() {
-            self.due.resets.set(stream, true);
+            self.due.set(Task::ResetDue, stream, true);
         }
     }
 
@@ -99,11 +107,12 @@ impl Core {
     }
 
     fn note_limit(&mut self, stream: StreamId, was: Option<u64>)
-        ensures { self.new ≡ record self.old { due = record self.old.due { limits = limits_by was (recv_limit self.old.recvs stream) stream self.old.due.limits } } }
+        ensures same { self.new ≡ record self.old { due = self.new.due } }
+        ensures marked { IsMarkedIf (not (is_same was (recv_limit self.old.recvs stream))) (row_of kinds.MaxStreamData) stream self.old.due self.new.due }
     {
         let is = self.recvs.limit_of(stream);
         if !is_same(was, is) {
-            self.due.limits.set(stream, true);
+            self.due.set(Task::LimitDue, stream, true);
         }
     }
 

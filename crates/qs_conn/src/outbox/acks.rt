@@ -14,12 +14,12 @@ ghost use Rattle.qs_conn.specs.Runs.{held_out};
 
 use super::halves::half_of;
 use super::{Outbox, halves};
-use crate::places::{index_of, type_of};
 use crate::send_lanes::SendLanes;
 use crate::send_marks::Moves;
 use crate::told::ToldItems;
 use qs_ranges::NoMemory;
 use qs_send::{AckPass, Chunk, Item, Piece, Records, SendState};
+use qs_streams::{index_of, type_of};
 use qs_wire::StreamId;
 
 /// Of the outstanding ones, or of the lost ones, for which an ACK comes late.

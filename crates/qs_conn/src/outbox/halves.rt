@@ -11,11 +11,11 @@ ghost use Rattle.qs_conn.specs.Marks.{TellWhich};
 ghost use Rattle.qs_conn.specs.Tasks.{IsQuiet, HasTask, IsSoughtOf, has};
 
 use crate::marks::Marks;
-use crate::places::{index_of, least_stream, type_of};
 use crate::send_lanes::{SendLanes, Setting};
 use crate::send_marks::{Moves, Search, Task};
 use crate::told_streams::ToldStreams;
 use qs_send::{SendHalf, SendView};
+use qs_streams::{index_of, least_stream, type_of};
 use qs_wire::StreamId;
 
 #[inline(always)]

@@ -15,10 +15,10 @@ ghost use Rattle.qs_machine.specs.Outgoing.{IsAckedOut, IsAckedReset, IsBlockedA
 use super::halves::{half_of, is_open, marks, may_have, next_sought_of, next_with};
 use super::{Outbox, halves};
 use crate::marks::Marks;
-use crate::places::least_stream;
 use crate::send_marks::{Search, Task};
 use crate::told_streams::ToldStreams;
 use qs_send::{Item, Reset, SendState};
+use qs_streams::least_stream;
 use qs_wire::StreamId;
 
 impl Outbox {

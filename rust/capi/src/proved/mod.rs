@@ -32,6 +32,8 @@ pub(crate) mod qs_ranges;
 pub(crate) mod qs_recv;
 #[path = "../../../src/proved/qs_send/mod.rs"]
 pub(crate) mod qs_send;
+#[path = "../../../src/proved/qs_streams/mod.rs"]
+pub(crate) mod qs_streams;
 #[path = "../../../src/proved/qs_wire/mod.rs"]
 pub(crate) mod qs_wire;
 

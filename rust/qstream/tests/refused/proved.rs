@@ -21,6 +21,8 @@ pub(crate) mod qs_recv;
 pub(crate) mod qs_script;
 #[path = "../../../src/proved/qs_send/mod.rs"]
 pub(crate) mod qs_send;
+#[path = "../../../src/proved/qs_streams/mod.rs"]
+pub(crate) mod qs_streams;
 #[path = "../../src/proved/qs_text/mod.rs"]
 pub(crate) mod qs_text;
 #[path = "../../../src/proved/qs_wire/mod.rs"]

@@ -2,9 +2,9 @@
 //! What the peer said blocks it, until the application is notified. It is no state of an endpoint, so it is kept beside.
 
 use crate::proved::qs_conn::by_dir::ByDir;
-use crate::proved::qs_conn::places::least_stream;
 use crate::proved::qs_conn::told_streams::ToldStreams;
 use crate::proved::qs_ranges::NoMemory;
+use crate::proved::qs_streams::least_stream;
 use crate::proved::qs_wire::{Dir, StreamId};
 use crate::shim::alloc::Global;
 

@@ -2,18 +2,17 @@
 //! One endpoint of a connection.
 
 use crate::proved::qs_conn::by_dir::ByDir;
-use crate::proved::qs_conn::due::Due;
 use crate::proved::qs_conn::held::Held;
 use crate::proved::qs_conn::limits::Limits;
 use crate::proved::qs_conn::middle::Core;
 use crate::proved::qs_conn::outbox::Outbox;
 use crate::proved::qs_conn::own_told::OwnTold;
-use crate::proved::qs_conn::places::type_of;
 use crate::proved::qs_conn::recv_tables::RecvTables;
 use crate::proved::qs_conn::setup::{setup_fault, wide_setup_fault};
 use crate::proved::qs_calls::{Closed, Closing, NotedClose, PeerLimits, Settings, SetupFault, Share, Tuning};
 use crate::proved::qs_ranges::RangeSet;
 use crate::proved::qs_recv::{next_limit, step_of};
+use crate::proved::qs_streams::{Boards, type_of};
 use crate::proved::qs_wire::{Dir, Frame, Role, StreamId, put};
 use crate::shim::alloc::Global;
 
@@ -104,7 +103,7 @@ impl Endpoint {
                 },
                 outbox: Outbox::new(alloc),
                 recvs: RecvTables::new(alloc),
-                due: Due::new(alloc),
+                due: Boards::new(alloc),
                 own: OwnTold::new(),
                 ended: ByDir::new(0, 0),
             },
@@ -175,7 +174,7 @@ impl Endpoint {
         if self.is_settled {
             return;
         }
-        self.core.recvs.raise_all(&mut self.core.due.limits);
+        self.core.recvs.raise_all(&mut self.core.due);
         let taken = self.core.recvs.tally().taken;
         let settings = &self.core.limits.settings;
         let step = self.core.limits.tuning.count_step;

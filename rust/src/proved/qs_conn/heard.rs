@@ -4,10 +4,10 @@
 use crate::proved::qs_conn::blocked::BlockedMarks;
 use crate::proved::qs_conn::by_dir::ByDir;
 use crate::proved::qs_conn::endpoint::Endpoint;
-use crate::proved::qs_conn::places::index_of;
 use crate::proved::qs_conn::told_streams::ToldStreams;
 use crate::proved::qs_calls::News;
 use crate::proved::qs_ranges::NoMemory;
+use crate::proved::qs_streams::index_of;
 use crate::proved::qs_wire::{Dir, Frame, StreamId};
 use crate::shim::alloc::Global;
 

@@ -5,11 +5,11 @@ use crate::proved::qs_conn::by_dir::ByDir;
 use crate::proved::qs_conn::due::Slot;
 use crate::proved::qs_conn::endpoint::{is_uni, role_bit};
 use crate::proved::qs_conn::outbox::Outbox;
-use crate::proved::qs_conn::places::type_of;
 use crate::proved::qs_conn::recv_tables::RecvTables;
 use crate::proved::qs_conn::send_marks::Task;
 use crate::proved::qs_calls::{MAX_VARINT, Settings, Tuning};
 use crate::proved::qs_send::Item;
+use crate::proved::qs_streams::type_of;
 use crate::proved::qs_wire::{Dir, Role, StreamId};
 
 /// An endpoint's role and settings, and the limits on the connection and on counts of streams: those that it granted, and those of its

@@ -2,9 +2,9 @@
 //! Which streams of one type may have something to send or to tell.
 
 use crate::proved::qs_conn::bits::{Bits, Both, FLAGS_PER_WORD, Left, Row};
-use crate::proved::qs_conn::places::index_from;
 use crate::proved::qs_conn::told_streams::ToldMarks;
 use crate::proved::qs_ranges::{NoMemory, lowest_bit};
+use crate::proved::qs_streams::index_from;
 use crate::shim::alloc::Global;
 
 /// A mark for each index of the streams of one type, and a flag for each word of marks that has one: so a search looks at one word of flags

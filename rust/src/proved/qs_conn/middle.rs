@@ -2,13 +2,12 @@
 //! What an endpoint knows and has to send.
 
 use crate::proved::qs_conn::by_dir::ByDir;
-use crate::proved::qs_conn::due::Due;
 use crate::proved::qs_conn::endpoint::{is_uni, role_bit};
 use crate::proved::qs_conn::limits::Limits;
 use crate::proved::qs_conn::outbox::Outbox;
 use crate::proved::qs_conn::own_told::OwnTold;
-use crate::proved::qs_conn::places::type_of;
 use crate::proved::qs_conn::recv_tables::RecvTables;
+use crate::proved::qs_streams::{Boards, type_of};
 use crate::proved::qs_wire::StreamId;
 
 mod acking;
@@ -22,7 +21,7 @@ pub(crate) struct Core {
     pub limits: Limits,
     pub outbox: Outbox,
     pub recvs: RecvTables,
-    pub due: Due,
+    pub due: Boards,
     pub own: OwnTold,
     pub ended: ByDir<u64>,
 }

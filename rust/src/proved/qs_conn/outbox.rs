@@ -3,13 +3,13 @@ use crate::shim::Vec;
 
 use crate::proved::qs_conn::held::sum_held;
 use crate::proved::qs_conn::piece_room::PieceRoom;
-use crate::proved::qs_conn::places::{index_of, type_of};
 use crate::proved::qs_conn::send_lanes::{SendLanes, Setting};
 use crate::proved::qs_conn::send_marks::{Moves, Task};
 use crate::proved::qs_conn::told::ToldItems;
 use halves::{half_of, is_open};
 use crate::proved::qs_ranges::NoMemory;
 use crate::proved::qs_send::{LostRecords, Piece, Records, SendFault, SendState, SendView};
+use crate::proved::qs_streams::{index_of, type_of};
 use crate::proved::qs_wire::StreamId;
 use crate::shim::alloc::Global;
 

@@ -4,10 +4,10 @@ use crate::shim::Vec;
 use crate::proved::qs_conn::held::{Holds, sum_held};
 use crate::proved::qs_conn::marks::Marks;
 use crate::proved::qs_conn::recv_marks::{RecvMarks, RecvTask};
-use crate::proved::qs_conn::stream_marks::StreamMarks;
 use crate::proved::qs_machine::Tally;
 use crate::proved::qs_ranges::NoMemory;
 use crate::proved::qs_recv::{RecvHalf, RingAssembly, Share};
+use crate::proved::qs_streams::{Boards, Task};
 use crate::proved::qs_wire::StreamId;
 use crate::shim::alloc::Global;
 
@@ -116,7 +116,7 @@ impl RecvLanes {
 
     /// A stream whose limit rises is marked: the new one is in no packet yet.
     #[inline]
-    pub(crate) fn raise_all(&mut self, stream_type: usize, limits: &mut StreamMarks) {
+    pub(crate) fn raise_all(&mut self, stream_type: usize, limits: &mut Boards) {
         debug_assert!(stream_type < 4);
         if !self.rising.may_have() {
             return;
@@ -177,12 +177,7 @@ fn moved(total: Tally, was: Tally, is: Tally) -> Tally {
 
 // Apart, so that a call after which no limit rises pays for one look.
 #[inline(never)]
-fn raise_marked(
-    halves: &mut Vec<Half>,
-    rising: &mut Marks,
-    stream_type: usize,
-    limits: &mut StreamMarks,
-) {
+fn raise_marked(halves: &mut Vec<Half>, rising: &mut Marks, stream_type: usize, limits: &mut Boards) {
     debug_assert!(stream_type < 4);
     while let Some(index) = rising.next(0) {
         rising.set(index, false);
@@ -192,11 +187,11 @@ fn raise_marked(
     }
 }
 
-fn raise_at(halves: &mut Vec<Half>, index: usize, stream_type: usize, limits: &mut StreamMarks) {
+fn raise_at(halves: &mut Vec<Half>, index: usize, stream_type: usize, limits: &mut Boards) {
     debug_assert!(stream_type < 4);
     let half = &mut halves[index];
     if let Some(_limit) = half.raise() {
         let stream = StreamId::new((index * 4 + stream_type) as u64).unwrap();
-        limits.set(stream, true);
+        limits.set(Task::LimitDue, stream, true);
     }
 }

@@ -1,15 +1,14 @@
 // Made from crates/qs_conn/src/recv_tables.rt by rust/erase; not edited by hand.
 use crate::proved::qs_conn::held::sum_held;
 use crate::proved::qs_conn::marks::Marks;
-use crate::proved::qs_conn::places::{Place, index_of, least_stream, type_of};
 use crate::proved::qs_conn::recv_lanes::{Half, RecvLanes};
 use crate::proved::qs_conn::recv_marks::RecvTask;
-use crate::proved::qs_conn::stream_marks::StreamMarks;
 use crate::proved::qs_conn::told_streams::ToldStreams;
 use crate::proved::qs_calls::RecvReport;
 use crate::proved::qs_machine::Tally;
 use crate::proved::qs_ranges::NoMemory;
 use crate::proved::qs_recv::{Read, RecvState, Share};
+use crate::proved::qs_streams::{Boards, Place, index_of, least_stream, type_of};
 use crate::proved::qs_wire::StreamId;
 use crate::shim::alloc::Global;
 
@@ -247,7 +246,7 @@ impl RecvTables {
     }
 
     #[inline]
-    pub(crate) fn raise_all(&mut self, limits: &mut StreamMarks) {
+    pub(crate) fn raise_all(&mut self, limits: &mut Boards) {
         self.types[0].raise_all(0, limits);
         self.types[1].raise_all(1, limits);
         self.types[2].raise_all(2, limits);

@@ -1,10 +1,10 @@
 // Made from crates/qs_conn/src/seen.rt by rust/erase; not edited by hand.
 //! What an endpoint reads of a frame.
 
-use crate::proved::qs_conn::places::Place;
 use SeenFrame::{Ack, Close, Control, Plain, Stream};
 use crate::proved::qs_calls::MAX_VARINT;
 use crate::proved::qs_send::Item;
+use crate::proved::qs_streams::Place;
 use crate::proved::qs_wire::{Dir, Frame};
 
 const MAX_STREAMS: u64 = 1 << 60;

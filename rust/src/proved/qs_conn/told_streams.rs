@@ -3,8 +3,8 @@
 
 use crate::proved::qs_conn::bits::{Bits, FLAGS_PER_WORD, Row};
 use crate::proved::qs_conn::marks::Marks;
-use crate::proved::qs_conn::places::{index_of, type_of};
 use crate::proved::qs_ranges::{NoMemory, lowest_bit};
+use crate::proved::qs_streams::{index_of, type_of};
 use crate::proved::qs_wire::StreamId;
 use crate::shim::alloc::Global;
 

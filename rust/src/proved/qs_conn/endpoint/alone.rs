@@ -4,11 +4,11 @@
 use super::receiving::noted_of_us;
 use super::{Endpoint, is_uni};
 use crate::proved::qs_conn::newly_told::Silent;
-use crate::proved::qs_conn::places::Place;
 use crate::proved::qs_conn::seen::{SeenFrame, has_text, is_ours, seen, type_number};
 use crate::proved::qs_calls::{Closed, Closer, Closing, NotedClose, TakeFault, Taken};
 use crate::proved::qs_recv::RecvState;
 use crate::proved::qs_send::Item;
+use crate::proved::qs_streams::Place;
 use crate::proved::qs_wire::{Frame, StreamId};
 
 // A payload can't hold such values, so the reader has no word for it (RFC 9000, section 20.1).

@@ -2,9 +2,9 @@
 //! What the application and the transport may ask of an endpoint. Nothing changes.
 
 use super::Endpoint;
-use crate::proved::qs_conn::places::Place;
 use crate::proved::qs_calls::{Closed, MAX_VARINT, NotedClose, UseFault};
 use crate::proved::qs_recv::Peek;
+use crate::proved::qs_streams::Place;
 use crate::proved::qs_wire::{Dir, StreamId};
 
 impl Endpoint {

@@ -2,11 +2,11 @@
 //! How frames are judged. Nothing changes here, so a frame that offends leaves everything as it was.
 
 use super::{Endpoint, is_uni, role_bit};
-use crate::proved::qs_conn::places::Place;
 use crate::proved::qs_conn::recv_lanes::Half;
 use crate::proved::qs_conn::seen::SeenFrame;
 use crate::proved::qs_recv::{Highest, RecvFault};
 use crate::proved::qs_send::Item;
+use crate::proved::qs_streams::Place;
 use crate::proved::qs_wire::StreamId;
 
 const FLOW_CONTROL_ERROR: u64 = 0x03;

@@ -3,11 +3,11 @@
 
 use super::Endpoint;
 use crate::proved::qs_conn::by_dir::ByDir;
-use crate::proved::qs_conn::places::{index_of, lesser, type_of};
 use crate::proved::qs_conn::recv_marks::RecvTask;
 use crate::proved::qs_conn::send_marks::{Search, Task};
 use crate::proved::qs_conn::told_streams::ToldStreams;
 use crate::proved::qs_calls::MAX_VARINT;
+use crate::proved::qs_streams::{index_of, lesser, type_of};
 use crate::proved::qs_wire::{Dir, StreamId};
 
 impl Endpoint {

@@ -3,9 +3,9 @@
 
 use super::{Endpoint, role_bit};
 use crate::proved::qs_conn::marks::Marks;
-use crate::proved::qs_conn::places::least_stream;
 use crate::proved::qs_conn::recv_marks::RecvTask;
 use crate::proved::qs_conn::told_streams::ToldStreams;
+use crate::proved::qs_streams::least_stream;
 use crate::proved::qs_wire::StreamId;
 
 impl Endpoint {

@@ -1,10 +1,10 @@
 // Made from crates/qs_conn/src/endpoint/opening.rt by rust/erase; not edited by hand.
 use super::{Endpoint, is_uni, role_bit};
 use crate::proved::qs_conn::outbox::Outbox;
-use crate::proved::qs_conn::places::type_of;
 use crate::proved::qs_conn::recv_tables::RecvTables;
 use crate::proved::qs_calls::{OpenFault, Share};
 use crate::proved::qs_ranges::NoMemory;
+use crate::proved::qs_streams::type_of;
 use crate::proved::qs_wire::{Dir, StreamId};
 
 impl Endpoint {
@@ -75,7 +75,7 @@ impl Endpoint {
         let share = self.core.limits.tuning.credit_step;
         let buffer = self.send_buffer();
         let before = self.core.outbox.count_of(type_of(stream));
-        self.core.due.open_to(stream)?;
+        self.core.due.make_room(stream)?;
         open_sends(&mut self.core.outbox, uni & !own, limit, buffer, stream)?;
         if let Err(refused) = open_recvs(&mut self.core.recvs, uni & own, window, share, stream) {
             self.core.outbox.close_to(stream, before);

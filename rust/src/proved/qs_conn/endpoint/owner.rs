@@ -5,6 +5,7 @@ use super::Endpoint;
 use crate::proved::qs_calls::{Closed, Closing, Consumed, LaneReport, SendReport, UseFault};
 use crate::proved::qs_recv::Read;
 use crate::proved::qs_send::SendFault;
+use crate::proved::qs_streams::Task;
 use crate::proved::qs_wire::StreamId;
 
 impl Endpoint {
@@ -77,7 +78,7 @@ impl Endpoint {
         }
         match self.core.outbox.reset(stream, code) {
             Ok(()) => {
-                self.core.due.resets.set(stream, true);
+                self.core.due.set(Task::ResetDue, stream, true);
                 self.settle();
                 Ok(())
             }

@@ -3,10 +3,10 @@
 
 use super::Endpoint;
 use crate::proved::qs_conn::newly_told::Told;
-use crate::proved::qs_conn::places::{Place, type_of};
 use crate::proved::qs_conn::seen::SeenFrame;
 use crate::proved::qs_ranges::NoMemory;
 use crate::proved::qs_send::Item;
+use crate::proved::qs_streams::{Place, type_of};
 use crate::proved::qs_wire::{Dir, StreamId};
 
 impl Endpoint {

@@ -2,14 +2,15 @@
 //! A packet is filled with what is due.
 
 use super::Core;
-use crate::proved::qs_conn::due::{Due, Kind, Slot};
+use crate::proved::qs_conn::due::{Kind, Slot};
 use crate::proved::qs_conn::filling::{
     Course, LEAST_STREAM_FRAME, Packet, Wish, cut_to, full_at, put_ack_if, put_chunk, put_item,
 };
 use crate::proved::qs_conn::outbox::Outbox;
 use crate::proved::qs_conn::own_told::OWN_ITEMS;
-use crate::proved::qs_conn::send_marks::Task;
+use crate::proved::qs_conn::send_marks::Task as SendTask;
 use crate::proved::qs_ranges::RangeSet;
+use crate::proved::qs_streams::{Boards, Task};
 use crate::proved::qs_wire::{Dir, StreamId};
 
 impl Core {
@@ -35,7 +36,7 @@ impl Core {
     // It looks at how many marks there are, and at no half.
     #[inline(always)]
     fn is_still(&self) -> bool {
-        if self.outbox.may_have(Task::Bytes) {
+        if self.outbox.may_have(SendTask::Bytes) {
             return false;
         }
         if self.may_tell(Kind::ResetStream) {
@@ -89,7 +90,7 @@ impl Core {
             if packet.is_full {
                 return packet;
             }
-            self.due.clear(kind, stream);
+            self.due.set(kind.task(), stream, false);
             from = stream.value() + 1;
         }
         packet
@@ -97,13 +98,13 @@ impl Core {
 
     #[inline(always)]
     pub(super) fn may_tell(&self, kind: Kind) -> bool {
-        self.due.marks(kind).may_have()
+        self.due.may_have(kind.task())
     }
 
     #[inline]
     pub(super) fn next_marked(&self, kind: Kind, from: u64) -> Option<StreamId> {
         debug_assert!(from <= 1 << 62);
-        self.due.marks(kind).next(from)
+        self.due.next(kind.task(), from)
     }
 
     #[inline(always)]
@@ -170,11 +171,11 @@ impl Core {
     /// While the connection's credit is used up, only bytes that were sent before may go (RFC 9000, section 4.1): streams with new ones are
     /// passed over by their marks.
     #[inline(always)]
-    pub(super) fn going_task(&self) -> Task {
+    pub(super) fn going_task(&self) -> SendTask {
         if self.outbox.sent_sum() < self.limits.known_data {
-            return Task::Bytes;
+            return SendTask::Bytes;
         }
-        Task::Again
+        SendTask::Again
     }
 
     #[inline(always)]
@@ -230,12 +231,12 @@ impl Core {
 
 // Unless the chunk itself showed that no limit holds the stream back, or that it did before.
 #[inline(always)]
-fn look_unless_free(due: &mut Due, outbox: &Outbox, stream: StreamId, is_free: bool) {
+fn look_unless_free(due: &mut Boards, outbox: &Outbox, stream: StreamId, is_free: bool) {
     if is_free {
         return;
     }
     if outbox.blocked_at(stream).is_some() {
-        due.blocks.set(stream, true);
+        due.set(Task::BlockDue, stream, true);
     }
 }
 

@@ -2,14 +2,16 @@
 //! What falls due as values rise, and what is due no more as it goes out.
 
 use super::Core;
+use crate::proved::qs_conn::due::mark;
 use crate::proved::qs_send::{Item, Piece, Reset};
+use crate::proved::qs_streams::Task;
 use crate::proved::qs_wire::StreamId;
 
 impl Core {
     #[inline]
     pub(super) fn note_put(&mut self, item: &Item, is_full: bool) {
         if !is_full {
-            self.due.set(item, false);
+            mark(&mut self.due, item, false);
             self.own.insert(item);
         }
     }
@@ -19,7 +21,7 @@ impl Core {
     pub(super) fn note_lost(&mut self, piece: &Piece) {
         if let Piece::Told(item) = piece {
             if self.is_present(item) {
-                self.due.set(item, true);
+                mark(&mut self.due, item, true);
             }
             self.own.remove(item);
         }
@@ -35,7 +37,7 @@ impl Core {
             return;
         };
         if half.written() - limit <= count as u64 {
-            self.due.blocks.set(stream, true);
+            self.due.set(Task::BlockDue, stream, true);
         }
     }
 
@@ -43,7 +45,7 @@ impl Core {
     #[inline]
     pub(crate) fn note_stop(&mut self, stream: StreamId, was: Option<u64>) {
         if was.is_none() {
-            self.due.stops.set(stream, true);
+            self.due.set(Task::StopDue, stream, true);
         }
     }
 
@@ -51,7 +53,7 @@ impl Core {
     #[inline]
     pub(crate) fn note_reset(&mut self, stream: StreamId, was: Option<Reset>) {
         if was.is_none() {
-            self.due.resets.set(stream, true);
+            self.due.set(Task::ResetDue, stream, true);
         }
     }
 
@@ -75,7 +77,7 @@ impl Core {
     fn note_limit(&mut self, stream: StreamId, was: Option<u64>) {
         let is = self.recvs.limit_of(stream);
         if !is_same(was, is) {
-            self.due.limits.set(stream, true);
+            self.due.set(Task::LimitDue, stream, true);
         }
     }
 

@@ -1,12 +1,12 @@
 // Made from crates/qs_conn/src/outbox/acks.rt by rust/erase; not edited by hand.
 use super::halves::half_of;
 use super::{Outbox, halves};
-use crate::proved::qs_conn::places::{index_of, type_of};
 use crate::proved::qs_conn::send_lanes::SendLanes;
 use crate::proved::qs_conn::send_marks::Moves;
 use crate::proved::qs_conn::told::ToldItems;
 use crate::proved::qs_ranges::NoMemory;
 use crate::proved::qs_send::{AckPass, Chunk, Item, Piece, Records, SendState};
+use crate::proved::qs_streams::{index_of, type_of};
 use crate::proved::qs_wire::StreamId;
 
 /// Of the outstanding ones, or of the lost ones, for which an ACK comes late.

@@ -2,11 +2,11 @@
 //! The sending halves of an end, by the type of the stream and by its index: one that is named, and searches.
 
 use crate::proved::qs_conn::marks::Marks;
-use crate::proved::qs_conn::places::{index_of, least_stream, type_of};
 use crate::proved::qs_conn::send_lanes::{SendLanes, Setting};
 use crate::proved::qs_conn::send_marks::{Moves, Search, Task};
 use crate::proved::qs_conn::told_streams::ToldStreams;
 use crate::proved::qs_send::{SendHalf, SendView};
+use crate::proved::qs_streams::{index_of, least_stream, type_of};
 use crate::proved::qs_wire::StreamId;
 
 #[inline(always)]

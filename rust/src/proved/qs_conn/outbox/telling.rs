@@ -2,10 +2,10 @@
 use super::halves::{half_of, is_open, marks, may_have, next_sought_of, next_with};
 use super::{Outbox, halves};
 use crate::proved::qs_conn::marks::Marks;
-use crate::proved::qs_conn::places::least_stream;
 use crate::proved::qs_conn::send_marks::{Search, Task};
 use crate::proved::qs_conn::told_streams::ToldStreams;
 use crate::proved::qs_send::{Item, Reset, SendState};
+use crate::proved::qs_streams::least_stream;
 use crate::proved::qs_wire::StreamId;
 
 impl Outbox {

@@ -1,4 +1,4 @@
-use Rattle.std.proofs.Common.{◌≡◌, ℕ, Bool, true, false, not, ◌&&◌, Option, Some, None, refl, ap, sym, ◌∙◌, arith, rules, subst, cond, replicate}
+use Rattle.std.proofs.Common.{List, ◌≡◌, ℕ, Bool, true, false, not, ◌&&◌, Option, Some, None, refl, ap, sym, ◌∙◌, arith, rules, subst, cond, replicate}
 use Rattle.std.specs.FinSet as set
 use Rattle.std.proofs.lemmas.Bool.{true≢false}
 use Rattle.std.proofs.lemmas.Bool.Decides.{nat_tests}
@@ -16,7 +16,6 @@ use Rattle.qs_machine.specs.Standing.{KeepsCredit}
 use Rattle.qs_machine.specs.Outgoing.{Outgoing, no_packets, sent_sum}
 use Rattle.qs_conn.specs.declared.by_dir.ByDir.{ByDir}
 use Rattle.qs_conn.specs.Middle.{IsKept}
-use Rattle.qs_conn.specs.declared.due.Due.{Due}
 use Rattle.qs_conn.specs.OwnTold.{Kept}
 use Rattle.qs_conn.proofs.DuePackets.{due_none, nothing_put}
 use Rattle.qs_conn.proofs.Owns.{own_new}
@@ -37,7 +36,7 @@ all_true true true true h = record { first = refl; second = refl; third = refl }
 all_true _ _ _ h = absurd (search (rules, h))
 
 -- a new end
-kept_new : (role : Role) (s : Settings) (tuned : Tuning) (p : PeerLimits) (wanted : ByDir (Option ℕ)) (o : Outgoing) (recvs : Tables RecvLane) (t : Due) (xs : Kept) (done : NumberSet) → wide_setup_fault s p ≡ None → o ≡ no_packets → recvs ≡ no_streams → done ≡ set.empty → xs ≡ replicate 6 None
+kept_new : (role : Role) (s : Settings) (tuned : Tuning) (p : PeerLimits) (wanted : ByDir (Option ℕ)) (o : Outgoing) (recvs : Tables RecvLane) (t : Tables (List ℕ)) (xs : Kept) (done : NumberSet) → wide_setup_fault s p ≡ None → o ≡ no_packets → recvs ≡ no_streams → done ≡ set.empty → xs ≡ replicate 6 None
     → IsKept
     (record {
       limits = record {

@@ -9,4 +9,4 @@ stopped-requires-clause-open c = out_there c.args.self.now _ c.args.stream c.req
 pub invariant_of-self : goal.invariant_of-self
 invariant_of-self c =
     let core = c.self.inside.core in
-    rw c.note_reset.ensures (kept_outbox core _ _ _ _ _ c.self.invariant _ _ (rest_told_to_stop core c.self.invariant.rest core.limits.tuning.answers_stops c.args.stream c.args.code c.reset_of-was.result _ _ c.reset_of-was.ensures.value c.stopped.ensures refl))
+    rw c.note_reset.ensures.same (kept_outbox core _ _ _ _ _ c.self.invariant _ _ (rest_told_to_stop core c.self.invariant.rest core.limits.tuning.answers_stops c.args.stream c.args.code c.reset_of-was.result _ _ c.reset_of-was.ensures.value c.stopped.ensures c.note_reset.ensures.marked))

@@ -93,7 +93,7 @@ invariant_of-self c =
         };
         credit = h.credit;
         counts = fit_settled _ _ _ _ _ _ _ h.counts limits.tuning (present_of limits) _ _ _ c.raise_all.ensures.after c.next_count.ensures c.next_count-2.ensures;
-        due = due_raised h.due c.raise_all.new.self c.raise_all.new.limits c.raise_all.ensures.after (c.raise_all.ensures.marked limits.role limits.settings (packets_of core.outbox) h.due.limits);
+        due = due_raised h.due c.raise_all.new.self c.raise_all.new.limits c.raise_all.ensures.after c.raise_all.ensures.marked;
         own = own_risen limits (packets_of core.outbox) core.own h.own _ (subst (λ k. limits.granted ≤ k) (sym limit) (next_limit_grows limits.granted (total taken core.recvs) limits.conn_window limits.tuning.credit_step)) (omega (arith, c.next_count.ensures)) (omega (arith, c.next_count-2.ensures)) (omega arith) (omega arith) (omega arith);
       };
       idle = k.rest.idle;

@@ -10,10 +10,10 @@ loop-piece-preserved c =
     let before = c.loop-piece.invariant in
     let first = sym c.first.ensures ∙ c.in-Some.is in
     record {
-      rest = rw c.note_lost.ensures (rest_lost c.loop-piece.self before.rest c.args.number c.in-Some.piece c.lose_first.new.self first c.in_ok-lose_first.ensures.ok c.lose_first.ensures.idle c.learn_apart.ensures _ refl);
-      streams = rw c.note_lost.ensures (record { limits = before.streams.limits; recvs = before.streams.recvs });
-      ended = rw c.note_lost.ensures before.ended;
-      onward = rw c.note_lost.ensures (λ result new h. before.onward result new (loses_more c.args.number c.loop-piece.self.outbox c.lose_first.new.self new c.in-Some.piece result first c.in_ok-lose_first.ensures.ok h));
+      rest = rw c.note_lost.ensures.same (rest_lost c.loop-piece.self before.rest c.args.number c.in-Some.piece c.lose_first.new.self first c.in_ok-lose_first.ensures.ok c.lose_first.ensures.idle c.learn_apart.ensures _ c.note_lost.ensures.marked);
+      streams = rw c.note_lost.ensures.same (record { limits = before.streams.limits; recvs = before.streams.recvs });
+      ended = rw c.note_lost.ensures.same before.ended;
+      onward = rw c.note_lost.ensures.same (λ result new h. before.onward result new (loses_more c.args.number c.loop-piece.self.outbox c.lose_first.new.self new c.in-Some.piece result first c.in_ok-lose_first.ensures.ok h));
     }
 
 pub returns-in_err-lose_first-clause-step : goal.returns-in_err-lose_first-clause-step

@@ -1,14 +1,13 @@
 use Rattle.std.proofs.Common.{◌≡◌, ◌+◌, ◌≤◌, ◌-◌, ℕ, Bool, true, false, List, length, take, arith, refl, sym, ap, subst, ◌∙◌}
 use Rattle.qs_send.specs.Lane.{bytes_of}
 use Rattle.qs_send.specs.declared.parts.Chunk.{Chunk}
-use Rattle.qs_machine.specs.Tables.{lookup}
+use Rattle.qs_machine.specs.Tables.{Tables, lookup}
 use Rattle.qs_machine.specs.Outgoing.{Outgoing, IsBlockedAt, chunk_put, sent_sum}
 use Rattle.qs_machine.specs.Sums.{or_none}
 use Rattle.qs_machine.specs.Due.{StreamGoes}
 use Rattle.qs_conn.specs.declared.middle.Core.{Core}
 use Rattle.qs_conn.specs.Filling.{end_by, HasSpare, LeavesRest}
 use Rattle.qs_conn.specs.Middle.{FillsOn}
-use Rattle.qs_conn.specs.declared.due.Due.{Due}
 use Rattle.qs_conn.specs.Due.{IsNotedBlock}
 use Rattle.qs_conn.specs.Tasks.{IsFree, IsShort}
 use Rattle.qs_conn.proofs.Flows.{Allowed, found_allowed, chunking_begins, chunking_put, chunking_done, may_go, sum_within, sum_small, still_open, flow_few, flow_ends, cut_part, flow_capped, flow_cut}
@@ -18,7 +17,7 @@ use Rattle.qs_conn.proofs.MadePackets.{chunk_spare, chunk_memory}
 use Rattle.qs_conn.proofs.middle.Core.put_chunks.Goals as goal
 
 -- a chunk went in, behind what was there before
-fills_chunk : (a c : Core) (xs ys zs : List ℕ) (i j k n : ℕ) (chunk : Chunk) (left fresh : ℕ) (o : Outgoing) (t : Due) (free : Bool) → FillsOn a xs i c ys j 0 → Allowed c.outbox n left fresh chunk → fresh ≡ c.limits.known_data - sent_sum c.outbox.sends
+fills_chunk : (a c : Core) (xs ys zs : List ℕ) (i j k n : ℕ) (chunk : Chunk) (left fresh : ℕ) (o : Outgoing) (t : Tables (List ℕ)) (free : Bool) → FillsOn a xs i c ys j 0 → Allowed c.outbox n left fresh chunk → fresh ≡ c.limits.known_data - sent_sum c.outbox.sends
     → o ≡ chunk_put n chunk c.outbox → length (bytes_of (or_none (lookup c.outbox.sends n)) chunk) ≡ chunk.len → (free ≡ true → IsFree c.outbox n chunk) → (free ≡ false → IsShort c.outbox n) → (free ≡ true → t ≡ c.due) → (free ≡ false → IsNotedBlock (IsBlockedAt (lookup o.sends n)) n c.due t)
     → k ≤ length zs → (HasSpare (length ys) j c.outbox.spare → HasSpare (length zs) k o.spare) → LeavesRest j ys k zs → length zs ≡ length ys → FillsOn a xs i (record c { outbox = o; due = t }) zs k 0
 fills_chunk a c xs ys zs i j k n chunk left fresh o t free filled may is put count at_free at_short same noted within spare rest room =

@@ -24,7 +24,7 @@ loop-stream-preserved c =
           let none = ap own_items c.at.ensures ∙ own_kind c.args.kind stream in
           let put = fills_within _ _ _ _ _ _ _ 0 (omega (arith, none)) (fills_on _ _ _ _ _ _ _ _ _ _ _ c.loop-stream.invariant.filled c.put_slot-packet.ensures.filled) in
           let idle : (e : End) → IsIdle (end_of c.put_slot-packet.new.self e) (slot_at c.args.kind stream) = rw c.at.ensures at c.put_slot-packet.ensures.idle c.if-packet-2.false in
-          fills_on _ _ _ _ _ _ _ _ _ 0 0 put (fills_marks _ _ _ _ _ put.filling (core_cleared _ put.filling.core c.args.kind stream _ c.clear.ensures idle) refl));
+          fills_on _ _ _ _ _ _ _ _ _ 0 0 put (fills_marks _ _ _ _ _ put.filling (core_cleared _ put.filling.core c.args.kind stream _ (rw c.task.ensures at c.set.ensures) idle) refl));
     }
 
 pub returns-clause-stage : goal.returns-clause-stage

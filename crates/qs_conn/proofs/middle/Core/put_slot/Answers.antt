@@ -15,7 +15,7 @@ pub returns-clause-stage : goal.returns-clause-stage
 returns-clause-stage c = λ wish room old e at stage.
     let self = c.args.self.now in
     let due = c.in-Some.ensures.due e in
-    rw c.note_put.ensures (stage_put wish room old self.limits self.recvs self.outbox c.put_item-packet.new.outbox e c.args.out.now c.put_item-packet.new.out c.args.packet.len c.put_item-packet.result.len c.args.packet.is_full c.put_item-packet.result.is_full c.args.slot c.in-Some.item
+    rw c.note_put.ensures.same (stage_put wish room old self.limits self.recvs self.outbox c.put_item-packet.new.outbox e c.args.out.now c.put_item-packet.new.out c.args.packet.len c.put_item-packet.result.len c.args.packet.is_full c.put_item-packet.result.is_full c.args.slot c.in-Some.item
     c.if-packet.false at c.requires.filling.within due.0 due.1 c.in-Some.ensures.fits c.put_item-packet.ensures.puts stage)
 
 pub returns-clause-filled : goal.returns-clause-filled
@@ -23,8 +23,8 @@ returns-clause-filled c =
     let self = c.args.self.now in
     let put = c.put_item-packet.ensures in
     let due = c.in-Some.ensures.due (some_end self) in
-    let core = core_item self c.requires.filling.core c.in-Some.item c.args.out.now c.args.packet.len c.put_item-packet.new.out c.put_item-packet.result.len c.put_item-packet.new.outbox c.put_item-packet.result.is_full put.puts (some_end self) due.0.0 in
-    rw c.note_put.ensures (fills_outbox self c.put_item-packet.new.outbox _ _ _ _ _ _ _ core put.within
+    let core = core_item self c.requires.filling.core c.in-Some.item c.args.out.now c.args.packet.len c.put_item-packet.new.out c.put_item-packet.result.len c.put_item-packet.new.outbox c.put_item-packet.result.is_full c.note_put.new.self.due put.puts (some_end self) due.0.0 c.note_put.ensures.full c.note_put.ensures.put in
+    rw c.note_put.ensures.same (fills_outbox self c.put_item-packet.new.outbox _ _ _ _ _ _ _ core put.within
     (λ left memory. memory_marks (record self { outbox = c.put_item-packet.new.outbox }) _ _ _ _ _ (item_memory self (some_end self) c.args.slot c.in-Some.item c.args.out.now c.put_item-packet.new.out c.args.packet.len c.put_item-packet.result.len c.put_item-packet.new.outbox c.put_item-packet.result.is_full _ _ left
     due.0.1 due.0.0 due.1 put.puts put.spare memory))
     put.rest put.room)
@@ -49,4 +49,4 @@ returns-in_default-clause-idle c = λ full e. c.in_default.ensures.due e
 pub returns-clause-idle : goal.returns-clause-idle
 returns-clause-idle c = λ full e.
     let self = c.args.self.now in
-    rw c.note_put.ensures (put_idle self.limits self.recvs self.outbox c.put_item-packet.new.outbox e c.in-Some.item c.args.slot _ _ _ _ c.put_item-packet.result.is_full c.put_item-packet.ensures.puts (c.in-Some.ensures.due e).0 full)
+    rw c.note_put.ensures.same (put_idle self.limits self.recvs self.outbox c.put_item-packet.new.outbox e c.in-Some.item c.args.slot _ _ _ _ c.put_item-packet.result.is_full c.put_item-packet.ensures.puts (c.in-Some.ensures.due e).0 full)

@@ -7,4 +7,4 @@ pub returns-clause-after : goal.returns-clause-after
 returns-clause-after c = rw (← c.self.view_is) (search (rules, each_is))
 
 pub returns-clause-marked : goal.returns-clause-marked
-returns-clause-marked c = rw (← c.self.view_is) (search (rules, stays_four))
+returns-clause-marked c = rw (← c.self.view_is) (stays_four c.self.inside.types _ _ _ _ _ _ _ _ _ _ _ _ _ (search (rules)) c.raise_all.ensures.marked c.raise_all-2.ensures.marked c.raise_all-3.ensures.marked c.raise_all-4.ensures.marked)

@@ -1,0 +1,1 @@
+use Rattle.qs_conn.proofs.Dues.{told_same}

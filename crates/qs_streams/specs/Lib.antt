@@ -1,0 +1,4 @@
+pub mod Rows
+pub mod Boards
+pub mod Tasks
+pub mod Flags

@@ -1,0 +1,197 @@
+// Made from crates/qs_streams/src/board.rt by rust/erase; not edited by hand.
+//! What the streams of one type have to do.
+
+use crate::proved::qs_streams::rows::{PER_WORD, ROWS, Rows};
+use crate::proved::qs_ranges::{NoMemory, lowest_bit, with_bit};
+use crate::shim::alloc::Global;
+
+#[derive(Clone, Copy)]
+pub enum Task {
+    Readable,
+    RecvEnded,
+    /// Its limit rises as the call ends.
+    Rising,
+    // The four that put frames into a packet stand at their places in its order: the connection's own have those between.
+    ResetDue,
+    StopDue,
+    LimitDue,
+    StopAcked,
+    BlockDue,
+    LimitAcked,
+    BlockAcked,
+    /// Whatever the connection's limit says: that one holds all alike.
+    Bytes,
+    /// They take no credit of the connection, so they go when it is used up.
+    Again,
+    Writable,
+    /// Below the stream's limit: for an application whose writes keep within credit.
+    Funded,
+    SendEnded,
+    /// Every half of the stream is over.
+    Over,
+    // What follows is set as it comes true, and goes as it is reported.
+    FreshReadable,
+    FreshStopped,
+    FreshSent,
+    FreshOver,
+    FreshWritable,
+    /// The peer says that the stream's limit blocks it.
+    PeerBlocked,
+}
+
+// Streams of a type are counted by 32 bits: more than these there is no memory for.
+const MOST_BLOCKS: usize = (1 << 26) - 1;
+
+/// A set of streams, by index, for each task. A flag on top stands for 64 of them.
+pub struct Board {
+    blocks: Rows,
+    tops: Rows,
+    // How many blocks have a flag, and the least of them: a search passes what was done long ago at once.
+    counts: [u32; ROWS],
+    low: [u32; ROWS],
+    // A bit for each task that some stream has.
+    some: u64,
+}
+
+impl Board {
+    #[inline]
+    pub fn new(alloc: Global) -> Self {
+        Board {
+            blocks: Rows::new(alloc),
+            tops: Rows::new(alloc),
+            counts: [0; ROWS],
+            low: [u32::MAX; ROWS],
+            some: 0,
+        }
+    }
+
+    /// A bit for each task that some stream has.
+    #[inline(always)]
+    pub fn some(&self) -> u64 {
+        self.some
+    }
+
+    #[inline(always)]
+    pub fn has(&self, task: Task, index: usize) -> bool {
+        self.blocks.has(row_of(task), index)
+    }
+
+    /// Room for an index and for all below it. It comes in blocks, so that mostly it is there. A refusal may leave some room: that is no
+    /// value.
+    #[inline(always)]
+    pub fn make_room(&mut self, index: usize) -> Result<(), NoMemory> {
+        if index / PER_WORD < self.blocks.len() {
+            return Ok(());
+        }
+        self.grow_to(index / PER_WORD)
+    }
+
+    #[inline(never)]
+    fn grow_to(&mut self, place: usize) -> Result<(), NoMemory> {
+        while self.blocks.len() <= place {
+            self.grow()?;
+        }
+        Ok(())
+    }
+
+    // One block more.
+    fn grow(&mut self) -> Result<(), NoMemory> {
+        if self.blocks.len() >= MOST_BLOCKS {
+            return Err(NoMemory);
+        }
+        if self.tops.len() * PER_WORD > self.blocks.len() {
+            return self.blocks.grow();
+        }
+        self.tops.grow()?;
+        self.blocks.grow()
+    }
+
+    /// Sets a flag or clears it, where there is room for it.
+    #[inline(always)]
+    pub fn set(&mut self, task: Task, index: usize, is_set: bool) {
+        let row = row_of(task);
+        // Most stay as they are.
+        if self.blocks.has(row, index) == is_set {
+            return;
+        }
+        if is_set {
+            self.turn_on(row, index);
+        } else {
+            self.turn_off(row, index);
+        }
+    }
+
+    // Both apart, so that a caller that changes nothing pays for one look.
+    #[inline(never)]
+    fn turn_on(&mut self, row: usize, index: usize) {
+        debug_assert!(row < 22);
+        let place = index / PER_WORD;
+        if place >= self.blocks.len() {
+            return;
+        }
+        let (was, _is) = self.blocks.turn(row, index, true);
+        if was != 0 {
+            return;
+        }
+        let _top = self.tops.turn(row, place, true);
+        let count = self.counts[row];
+        let low = self.low[row];
+        self.counts[row] = count + 1;
+        self.low[row] = low.min(place as u32);
+        self.some = with_bit(self.some, row, true);
+    }
+
+    #[inline(never)]
+    fn turn_off(&mut self, row: usize, index: usize) {
+        debug_assert!(row < 22);
+        let place = index / PER_WORD;
+        let (_was, is) = self.blocks.turn(row, index, false);
+        if is != 0 {
+            return;
+        }
+        let _top = self.tops.turn(row, place, false);
+        let count = self.counts[row] - 1;
+        self.counts[row] = count;
+        self.some = with_bit(self.some, row, count > 0);
+        let low = self.low[row];
+        if low as usize == place {
+            self.low[row] = next_low(&self.tops, row, place + 1);
+        }
+    }
+
+    /// The least index from one on that has a task.
+    #[inline]
+    pub fn next(&self, task: Task, from: usize) -> Option<usize> {
+        let row = row_of(task);
+        let count = self.counts[row];
+        if count == 0 {
+            return None;
+        }
+        let low = self.low[row] as usize;
+        let from = from.max(low * PER_WORD);
+        let place = from / PER_WORD;
+        if place >= self.blocks.len() {
+            return None;
+        }
+        if let Some(bit) = lowest_bit(self.blocks.word(row, place), from % PER_WORD) {
+            return Some(place * PER_WORD + bit);
+        }
+        let place = self.tops.next(row, place + 1)?;
+        let bit = lowest_bit(self.blocks.word(row, place), 0)?;
+        Some(place * PER_WORD + bit)
+    }
+}
+
+#[inline(always)]
+pub(crate) fn row_of(task: Task) -> usize {
+    task as usize
+}
+
+// The least block from one on that has a flag, or more than there are.
+fn next_low(tops: &Rows, row: usize, from: usize) -> u32 {
+    debug_assert!(row < 22);
+    match tops.next(row, from) {
+        Some(place) => place as u32,
+        None => u32::MAX,
+    }
+}
