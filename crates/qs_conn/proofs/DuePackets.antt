@@ -20,8 +20,8 @@ use Rattle.qs_machine.specs.Tables.{Tables, lookup, update, updated, no_streams,
 use Rattle.qs_machine.specs.Sums.{tables_of, changed}
 use Rattle.qs_machine.specs.Ends.{AckedItems, End, lost_less, is_own, opens, opened_by_peer}
 use Rattle.qs_machine.specs.Due.{IsCurrent, IsCovered}
-use Rattle.qs_machine.specs.FrameStep.{without_first, greatest_of}
-use Rattle.qs_machine.specs.Told.{IsNoted}
+use Rattle.qs_machine.specs.FrameStep.{without_first}
+use Rattle.qs_machine.specs.Acked.{HasAcked, greatest_of}
 use Rattle.qs_machine.specs.Outgoing.{AreApartIn, Outgoing, IsAckedOut, IsAckedReset, blocked_noted, no_packets, first_piece, first_acked_out, first_lost_out, acked_at, items_acked}
 use Rattle.qs_machine.proofs.Carried.{carried_before, carried_still, shortened_is, get_new, get_other, tied_itself}
 use Rattle.qs_machine.proofs.LostSent.{lost_carried}
@@ -83,9 +83,9 @@ known_is x a i known = grind (arith, nat_tests, greatest_is)
 limits_other : (x : Piece) (a : AckedItems) → ((n w : ℕ) → x ≡ Told (MaxStreamData n w) → ⊥) → (items_acked x a).max_stream_data ≡ a.max_stream_data
 limits_other x a none = grind (arith, nat_tests)
 
-limit_still : (x : Piece) (a : AckedItems) (n v : ℕ) → ((w : ℕ) → IsKnown a (MaxStreamData n w) → w ≤ v) → ((w : ℕ) → x ≡ Told (MaxStreamData n w) → w ≤ v) → (Told (MaxStreamData n v) ≡ x) ⊎ IsNoted a (MaxStreamData n v) → IsNoted (items_acked x a) (MaxStreamData n v)
+limit_still : (x : Piece) (a : AckedItems) (n v : ℕ) → ((w : ℕ) → IsKnown a (MaxStreamData n w) → w ≤ v) → ((w : ℕ) → x ≡ Told (MaxStreamData n w) → w ≤ v) → (Told (MaxStreamData n v) ≡ x) ⊎ HasAcked a (MaxStreamData n v) → HasAcked (items_acked x a) (MaxStreamData n v)
 limit_still x a n v known within told = elim (limit_telling x) [
-  | inl (j, w, is) ↦ subst (λ y. IsNoted (items_acked y a) (MaxStreamData n v)) (sym is)
+  | inl (j, w, is) ↦ subst (λ y. HasAcked (items_acked y a) (MaxStreamData n v)) (sym is)
       (greatest_stays a.max_stream_data n j w v known (λ e. within w (is ∙ ap (λ q. Told (MaxStreamData q w)) e)) (elim told [ inl same ↦ inl (limits_tell n j v w (told_same (MaxStreamData j w) (MaxStreamData n v) (sym is ∙ sym same))) | inr noted ↦ inr noted ]))
   | inr none ↦ elim told [ inl same ↦ absurd (none n v (sym same)) | inr noted ↦ ap (λ m. fmap.get m n) (limits_other x a none) ∙ noted ]
 ]
@@ -93,9 +93,9 @@ limit_still x a n v known within told = elim (limit_telling x) [
 blocks_other : (x : Piece) (a : AckedItems) → ((n w : ℕ) → x ≡ Told (StreamDataBlocked n w) → ⊥) → (items_acked x a).stream_data_blocked ≡ a.stream_data_blocked
 blocks_other x a none = grind (arith, nat_tests)
 
-block_still : (x : Piece) (a : AckedItems) (n v : ℕ) → ((w : ℕ) → IsKnown a (StreamDataBlocked n w) → w ≤ v) → ((w : ℕ) → x ≡ Told (StreamDataBlocked n w) → w ≤ v) → (Told (StreamDataBlocked n v) ≡ x) ⊎ IsNoted a (StreamDataBlocked n v) → IsNoted (items_acked x a) (StreamDataBlocked n v)
+block_still : (x : Piece) (a : AckedItems) (n v : ℕ) → ((w : ℕ) → IsKnown a (StreamDataBlocked n w) → w ≤ v) → ((w : ℕ) → x ≡ Told (StreamDataBlocked n w) → w ≤ v) → (Told (StreamDataBlocked n v) ≡ x) ⊎ HasAcked a (StreamDataBlocked n v) → HasAcked (items_acked x a) (StreamDataBlocked n v)
 block_still x a n v known within told = elim (block_telling x) [
-  | inl (j, w, is) ↦ subst (λ y. IsNoted (items_acked y a) (StreamDataBlocked n v)) (sym is)
+  | inl (j, w, is) ↦ subst (λ y. HasAcked (items_acked y a) (StreamDataBlocked n v)) (sym is)
       (greatest_stays a.stream_data_blocked n j w v known (λ e. within w (is ∙ ap (λ q. Told (StreamDataBlocked q w)) e)) (elim told [ inl same ↦ inl (blocks_tell n j v w (told_same (StreamDataBlocked j w) (StreamDataBlocked n v) (sym is ∙ sym same))) | inr noted ↦ inr noted ]))
   | inr none ↦ elim told [ inl same ↦ absurd (none n v (sym same)) | inr noted ↦ ap (λ m. fmap.get m n) (blocks_other x a none) ∙ noted ]
 ]
@@ -103,9 +103,9 @@ block_still x a n v known within told = elim (block_telling x) [
 stops_other : (x : Piece) (a : AckedItems) → ((n w : ℕ) → x ≡ Told (StopSending n w) → ⊥) → (items_acked x a).stop_sending ≡ a.stop_sending
 stops_other x a none = grind (arith, nat_tests)
 
-stop_still : (x : Piece) (a : AckedItems) (n v : ℕ) → (Told (StopSending n v) ≡ x) ⊎ IsNoted a (StopSending n v) → IsNoted (items_acked x a) (StopSending n v)
+stop_still : (x : Piece) (a : AckedItems) (n v : ℕ) → (Told (StopSending n v) ≡ x) ⊎ HasAcked a (StopSending n v) → HasAcked (items_acked x a) (StopSending n v)
 stop_still x a n v told = elim (stop_telling x) [
-  | inl (j, w, is) ↦ subst (λ y. IsNoted (items_acked y a) (StopSending n v)) (sym is)
+  | inl (j, w, is) ↦ subst (λ y. HasAcked (items_acked y a) (StopSending n v)) (sym is)
       (set.contains-insert nat_cmp_total a.stop_sending j n ∙ elim told [ inl same ↦ ap (λ b. b || set.contains a.stop_sending n) (itself j n (stops_tell n j v w (told_same (StopSending j w) (StopSending n v) (sym is ∙ sym same))).0) | inr noted ↦ or_right _ _ noted ])
   | inr none ↦ elim told [ inl same ↦ absurd (none n v (sym same)) | inr noted ↦ ap (λ m. set.contains m n) (stops_other x a none) ∙ noted ]
 ]
@@ -232,7 +232,7 @@ module _ (l : Limits) (recvs : Tables RecvLane) (o : Outgoing) (e : End) (t : Ta
   covered : (i : Item) → IsToldIn (packets_of o) i → IsCovered there i
   covered i told = elim told [ inl out ↦ inl out | inr noted ↦ inr (acked_out l recvs o e i (noted_out i noted)) ]
     where
-      noted_out : (i : Item) → IsNoted o.acked i → IsAckedOut o i
+      noted_out : (i : Item) → HasAcked o.acked i → IsAckedOut o i
       noted_out i noted = grind (arith, nat_tests)
 
   stop_tells : (i : Item) → slot_of i ≡ slots.StopSending n → Tells (marks_of kinds.StopSending t n) i

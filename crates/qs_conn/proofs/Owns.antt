@@ -9,7 +9,7 @@ use Rattle.qs_send.specs.declared.piece.Piece.{Piece}
 use Rattle.qs_send.specs.declared.piece.Piece.TheVariants.{Told, Data}
 use Rattle.qs_machine.specs.Tables.{Tables}
 use Rattle.qs_machine.specs.Ends.{Records, AckedItems, End, no_items}
-use Rattle.qs_machine.specs.Told.{IsNoted, item_noted}
+use Rattle.qs_machine.specs.Acked.{HasAcked, greatest, with_item}
 use Rattle.qs_machine.proofs.LostSent.{lost_carried}
 use Rattle.qs_send.proofs.Outstanding.{carried-without_first}
 use Rattle.qs_machine.specs.Outgoing.{AreApartIn, Apart, Outgoing, IsCarried, IsAckedOut, no_packets, items_acked, first_piece, first_acked_out, first_lost_out, acked_at}
@@ -28,7 +28,7 @@ use Rattle.qs_recv.specs.Lane.{RecvLane}
 use Rattle.qs_send.specs.declared.parts.Chunk.{Chunk}
 use Rattle.qs_send.specs.declared.piece.Item.TheVariants.{MaxData, MaxStreamData, ResetStream, StopSending, StreamDataBlocked, MaxStreams, DataBlocked, StreamsBlocked}
 use Rattle.qs_machine.specs.Due.{IsCurrent, IsCovered}
-use Rattle.qs_machine.specs.FrameStep.{without_first, greatest}
+use Rattle.qs_machine.specs.FrameStep.{without_first}
 use Rattle.qs_conn.specs.declared.limits.Limits.{Limits}
 use Rattle.qs_conn.specs.declared.by_dir.ByDir.{ByDir}
 use Rattle.qs_conn.specs.Filling.{end_by, slot_of}
@@ -163,7 +163,7 @@ module _ (t : Limits) (p : Packets) (xs : Kept) (h : AreOwn t p xs) where
 
   module _ (p' : Packets) (x : Piece) (less : (y : Piece) → IsCarried p'.out y → IsCarried p.out y) (still : (y : Piece) → IsCarried p.out y → (y ≡ x) ⊎ IsCarried p'.out y) (put : (i : Item) → own_place i < 6 → WasTold p' i → WasTold p i) where
     -- it is acknowledged
-    own_noted : ((i : Item) → own_place i < 6 → ((j : Item) → own_place j ≡ own_place i → (Told j ≡ x) ⊎ IsNoted p.acked j → own_value j ≤ own_value i) → (Told i ≡ x) ⊎ IsNoted p.acked i → IsNoted p'.acked i)
+    own_noted : ((i : Item) → own_place i < 6 → ((j : Item) → own_place j ≡ own_place i → (Told j ≡ x) ⊎ HasAcked p.acked j → own_value j ≤ own_value i) → (Told i ≡ x) ⊎ HasAcked p.acked i → HasAcked p'.acked i)
         → ((j : Item) → Told j ≡ x → WasTold p j) → AreOwn t p' xs
     own_noted noted there = record { places = h.places; each = one }
       where
@@ -174,7 +174,7 @@ module _ (t : Limits) (p : Packets) (xs : Kept) (h : AreOwn t p xs) where
               within = was.within;
               below = λ told. was.below (put i own told);
               told = λ is now. (
-                  let within : (j : Item) → own_place j ≡ own_place i → (Told j ≡ x) ⊎ IsNoted p.acked j → own_value j ≤ own_value i =
+                  let within : (j : Item) → own_place j ≡ own_place i → (Told j ≡ x) ⊎ HasAcked p.acked j → own_value j ≤ own_value i =
                   λ j place by. (
                   let le : own_value j ≤ present_at t (own_place j) = (h.each j (subst (λ k. k < 6) (sym place) own)).below (elim by [ inl e ↦ there j e | inr was_noted ↦ inr (inr was_noted) ]) in
                   let e = ap (present_at t) place in
@@ -190,7 +190,7 @@ module _ (t : Limits) (p : Packets) (xs : Kept) (h : AreOwn t p xs) where
     module _ (acked : p'.acked ≡ p.acked) (apart : (y : Piece) → IsCarried p'.out y → Apart x y) where
       told_still : (i : Item) → (Told i ≡ x → ⊥) → IsToldIn p i → IsToldIn p' i
       told_still i other (inl out) = elim (still (Told i) out) [ inl e ↦ absurd (other e) | inr out' ↦ inl out' ]
-      told_still i other (inr noted) = inr (subst (λ a. IsNoted a i) (sym acked) noted)
+      told_still i other (inr noted) = inr (subst (λ a. HasAcked a i) (sym acked) noted)
 
       other_gone : ((i : Item) → own_place i < 6 → kept_at xs (own_place i) ≡ Some (own_value i) → Told i ≡ x → ⊥) → AreOwn t p' xs
       other_gone other = record { places = h.places; each = one }
@@ -261,7 +261,7 @@ own_new t o xs empty none =
     nothing i own (inr (inl lost)) = no_piece (Told i) lost
     nothing i own (inr (inr noted)) = none_noted i own noted
       where
-        none_noted : (i : Item) → own_place i < 6 → IsNoted no_items i → ⊥
+        none_noted : (i : Item) → own_place i < 6 → HasAcked no_items i → ⊥
         none_noted i own noted = grind (arith, nat_tests)
 
 -- Pieces are acknowledged and lost
@@ -275,10 +275,10 @@ noted_at a (suc (suc (suc zero))) = a.data_blocked
 noted_at a (suc (suc (suc (suc zero)))) = a.bidi_blocked
 noted_at a (suc (suc (suc (suc (suc k))))) = a.uni_blocked
 
-noted_here : (a : AckedItems) (i : Item) → own_place i < 6 → IsNoted a i → noted_at a (own_place i) ≡ Some (own_value i)
+noted_here : (a : AckedItems) (i : Item) → own_place i < 6 → HasAcked a i → noted_at a (own_place i) ≡ Some (own_value i)
 noted_here a i own noted = grind (arith, nat_tests)
 
-here_noted : (a : AckedItems) (i : Item) → own_place i < 6 → noted_at a (own_place i) ≡ Some (own_value i) → IsNoted a i
+here_noted : (a : AckedItems) (i : Item) → own_place i < 6 → noted_at a (own_place i) ≡ Some (own_value i) → HasAcked a i
 here_noted a i own at = grind (arith, nat_tests)
 
 place_at : (k v : ℕ) → k < 6 → own_place (item_at k v) ≡ k
@@ -287,23 +287,23 @@ place_at k v lt = grind (arith, nat_tests)
 value_at : (k v : ℕ) → own_value (item_at k v) ≡ v
 value_at k v = grind (arith, nat_tests)
 
-at_noted : (a : AckedItems) (k v : ℕ) → k < 6 → noted_at a k ≡ Some v → IsNoted a (item_at k v)
+at_noted : (a : AckedItems) (k v : ℕ) → k < 6 → noted_at a k ≡ Some v → HasAcked a (item_at k v)
 at_noted a k v lt at = here_noted a (item_at k v) (subst (λ j. j < 6) (sym (place_at k v lt)) lt) (ap (noted_at a) (place_at k v lt) ∙ at ∙ ap Some (sym (value_at k v)))
 
-noted_same : (j : Item) (a : AckedItems) → own_place j < 6 → noted_at (item_noted j a) (own_place j) ≡ greatest (noted_at a (own_place j)) (own_value j)
+noted_same : (j : Item) (a : AckedItems) → own_place j < 6 → noted_at (with_item j a) (own_place j) ≡ greatest (noted_at a (own_place j)) (own_value j)
 noted_same j a own = grind (arith, nat_tests)
 
-noted_other : (j : Item) (a : AckedItems) (k : ℕ) → k < 6 → own_place j ≢ k → noted_at (item_noted j a) k ≡ noted_at a k
+noted_other : (j : Item) (a : AckedItems) (k : ℕ) → k < 6 → own_place j ≢ k → noted_at (with_item j a) k ≡ noted_at a k
 noted_other j a k lt ne = grind (arith, nat_tests)
 
 greatest_keeps : (known : Option ℕ) (w v : ℕ) → ((u : ℕ) → known ≡ Some u → u ≤ v) → w ≤ v → (w ≡ v) ⊎ (known ≡ Some v) → greatest known w ≡ Some v
 greatest_keeps known w v within le by = grind (arith, nat_tests, max)
 
 -- what is known of an item once a piece is acknowledged
-noted_is : (x : Piece) (a : AckedItems) (i : Item) → own_place i < 6 → IsNoted (items_acked x a) i → IsNoted a i ⊎ (Told i ≡ x)
+noted_is : (x : Piece) (a : AckedItems) (i : Item) → own_place i < 6 → HasAcked (items_acked x a) i → HasAcked a i ⊎ (Told i ≡ x)
 noted_is x a i own noted = grind (arith, nat_tests)
 
-noted_still : (x : Piece) (a : AckedItems) (i : Item) → own_place i < 6 → ((j : Item) → own_place j ≡ own_place i → (Told j ≡ x) ⊎ IsNoted a j → own_value j ≤ own_value i) → (Told i ≡ x) ⊎ IsNoted a i → IsNoted (items_acked x a) i
+noted_still : (x : Piece) (a : AckedItems) (i : Item) → own_place i < 6 → ((j : Item) → own_place j ≡ own_place i → (Told j ≡ x) ⊎ HasAcked a j → own_value j ≤ own_value i) → (Told i ≡ x) ⊎ HasAcked a i → HasAcked (items_acked x a) i
 noted_still (Data n c) a i own within (inl e) = absurd (cc (e))
 noted_still (Data n c) a i own within (inr noted) = noted
 noted_still (Told j) a i own within told = elim (cases_eq (own_place j) (own_place i)) [
@@ -312,11 +312,11 @@ noted_still (Told j) a i own within told = elim (cases_eq (own_place j) (own_pla
       λ u at. subst (λ w. w ≤ own_value i) (value_at (own_place i) u) (within (item_at (own_place i) u) (place_at (own_place i) u own) (inr (at_noted a (own_place i) u own at))) in
       let less : own_value j ≤ own_value i = within j place (inl refl) in
       let by : (own_value j ≡ own_value i) ⊎ (noted_at a (own_place i) ≡ Some (own_value i)) = elim told [ inl e ↦ inl (sym (ap own_value (told_same i j e))) | inr noted ↦ inr (noted_here a i own noted) ] in
-      here_noted (item_noted j a) i own (ap (noted_at (item_noted j a)) (sym place) ∙ noted_same j a (subst (λ k. k < 6) (sym place) own) ∙ ap (λ k. greatest (noted_at a k) (own_value j)) place ∙ greatest_keeps (noted_at a (own_place i)) (own_value j) (own_value i) known less by)
+      here_noted (with_item j a) i own (ap (noted_at (with_item j a)) (sym place) ∙ noted_same j a (subst (λ k. k < 6) (sym place) own) ∙ ap (λ k. greatest (noted_at a k) (own_value j)) place ∙ greatest_keeps (noted_at a (own_place i)) (own_value j) (own_value i) known less by)
       )
   | inr ne ↦ elim told [
     | inl e ↦ absurd (ne (sym (ap own_place (told_same i j e))))
-    | inr noted ↦ here_noted (item_noted j a) i own (noted_other j a (own_place i) own ne ∙ noted_here a i own noted)
+    | inr noted ↦ here_noted (with_item j a) i own (noted_other j a (own_place i) own ne ∙ noted_here a i own noted)
   ]
 ]
 
@@ -361,7 +361,7 @@ module _ (l : Limits) (recvs : Tables RecvLane) (o : Outgoing) (e : End) (xs : K
   told_in : (i : Item) → IsToldIn (packets_of o) i → IsCovered there i
   told_in i told = elim told [ inl out ↦ inl out | inr noted ↦ inr (acked_out l recvs o e i (noted_out i noted)) ]
     where
-      noted_out : (i : Item) → IsNoted o.acked i → IsAckedOut o i
+      noted_out : (i : Item) → HasAcked o.acked i → IsAckedOut o i
       noted_out i noted = grind (arith, nat_tests)
 
   -- a present item that is kept is

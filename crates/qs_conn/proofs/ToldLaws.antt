@@ -1,5 +1,8 @@
 -- What the acknowledged control items are, as std's maps and the sets of numbers keep them.
-use Rattle.std.proofs.Common.{◌≡◌, ◌∙◌, ℕ, cond, nat_eq, List, Option, None, Some, sym, ap, arith}
+use Rattle.std.proofs.Common.{◌≡◌, ◌∙◌, ℕ, ◌+◌, ◌-◌, ◌≤◌, cond, nat_eq, true, List, Option, None, Some, sym, ap, arith}
+use Rattle.std.proofs.lemmas.Bool.{true≢false}
+use Rattle.std.proofs.lemmas.Option.{none-some}
+use Rattle.std.specs.FinSet as set
 use Rattle.std.specs.Option.{unwrap_or}
 use Rattle.std.specs.Ordering.{nat_cmp}
 use Rattle.std.specs.Cmp.{nat_cmp_total, unsigned_tied}
@@ -9,7 +12,8 @@ use Rattle.std.specs.Map.{lookup}
 use Rattle.std.specs.FinMap as fmap
 use Rattle.std.specs.FinMap.{nat_cmp-IsAntisymmetric, same_map}
 use Rattle.std.proofs.lemmas.Bool.Decides.{nat_tests}
-use Rattle.qs_machine.specs.FrameStep.{or_zero}
+use Rattle.qs_ranges.specs.Numbers.{NumberSet, MissesRange}
+use Rattle.qs_machine.specs.Acked.{or_zero}
 
 find-lookup : (es : List (ℕ × ℕ)) (q : ℕ) → fmap.find nat_cmp q es ≡ lookup (is_at (nat_cmp q)) es
 find-lookup es q = grind (arith, nat_tests)
@@ -18,9 +22,13 @@ find-lookup es q = grind (arith, nat_tests)
 pub value_at : (m : BTreeMap ℕ ℕ) (q : ℕ) → fmap.get (fmap.from_entries {R = nat_cmp} m.entries) q ≡ tree.get nat_cmp m q
 value_at m q = fmap.get-from_entries nat_cmp_total m.entries q ∙ find-lookup m.entries q
 
--- a number that the std map lacks
-pub value_absent : (m : BTreeMap ℕ ℕ) (k q : ℕ) → k ≡ q → tree.get nat_cmp m k ≡ None → fmap.get (fmap.from_entries {R = nat_cmp} m.entries) q ≡ None
-value_absent m k q same none = value_at m q ∙ ap (tree.get nat_cmp m) (sym same) ∙ none
+-- a number that the std map lacks has no value
+pub none_known : (m : BTreeMap ℕ ℕ) (k q : ℕ) → k ≡ q → tree.get nat_cmp m k ≡ None → (v : ℕ) → fmap.get (fmap.from_entries {R = nat_cmp} m.entries) q ≡ Some v → ⊥
+none_known m k q same none v is = none-some v (sym (value_at m q ∙ ap (tree.get nat_cmp m) (sym same) ∙ none) ∙ is)
+
+-- no neighbour of a number is in a set that the range about it misses
+pub none_beside : (s : NumberSet) (n : ℕ) → MissesRange s (n - 1) (n + 2) → (k : ℕ) → n ≤ k + 1 → k ≤ n + 1 → set.contains s k ≡ true → ⊥
+none_beside s n misses k low high is = true≢false (sym is ∙ misses k (omega (arith, low)) (omega (arith, high)))
 
 either_way : (k q : ℕ) → nat_eq k q ≡ nat_eq q k
 either_way k q = grind (arith, nat_tests)

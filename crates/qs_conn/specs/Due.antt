@@ -12,8 +12,8 @@ use Rattle.qs_send.specs.declared.piece.Item.TheVariants.{MaxStreamData, ResetSt
 use Rattle.qs_send.specs.declared.piece.Piece.{Piece}
 use Rattle.qs_send.specs.declared.piece.Piece.TheVariants.{Data, Told}
 use Rattle.qs_machine.specs.Tables.{Tables, with_table, lookup, updated}
-use Rattle.qs_machine.specs.Ends.{Records, AckedItems, first_window_by}
-use Rattle.qs_machine.specs.Told.{IsNoted}
+use Rattle.qs_machine.specs.Ends.{Records, first_window_by}
+use Rattle.qs_machine.specs.Acked.{AckedItems, HasAcked}
 use Rattle.qs_machine.specs.Outgoing.{Outgoing, IsBlockedAt}
 use Rattle.qs_machine.specs.Sums.{or_none}
 use Rattle.qs_conn.specs.declared.due.Slot.{Slot}
@@ -37,8 +37,8 @@ packets_of o = record { out = o.outstanding; lost = o.lost.pieces; acked = o.ack
 
 -- the greatest acknowledged limit of a stream
 abbrev pub IsKnown : AckedItems → Item → Type 0
-IsKnown a (MaxStreamData n m) = IsNoted a (MaxStreamData n m)
-IsKnown a (StreamDataBlocked n m) = IsNoted a (StreamDataBlocked n m)
+IsKnown a (MaxStreamData n m) = HasAcked a (MaxStreamData n m)
+IsKnown a (StreamDataBlocked n m) = HasAcked a (StreamDataBlocked n m)
 IsKnown a i = ⊥
 
 -- a packet in flight told an item, or a lost one, or one that was acknowledged
@@ -47,7 +47,7 @@ WasPut p i = IsCarried p.out (Told i) ⊎ IsCarried p.lost (Told i) ⊎ IsKnown 
 
 -- one in flight told it with this value, or one that was acknowledged (RFC 9000, section 13.3)
 abbrev pub IsToldIn : Packets → Item → Type 0
-IsToldIn p i = IsCarried p.out (Told i) ⊎ IsNoted p.acked i
+IsToldIn p i = IsCarried p.out (Told i) ⊎ HasAcked p.acked i
 
 -- What a half has to tell
 

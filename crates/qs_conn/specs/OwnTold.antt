@@ -7,7 +7,7 @@ use Rattle.qs_send.specs.declared.piece.Item.{Item}
 use Rattle.qs_send.specs.declared.piece.Item.TheVariants.{MaxData, MaxStreams, DataBlocked, StreamsBlocked}
 use Rattle.qs_send.specs.declared.piece.Piece.{Piece}
 use Rattle.qs_send.specs.declared.piece.Piece.TheVariants.{Data, Told}
-use Rattle.qs_machine.specs.Told.{IsNoted}
+use Rattle.qs_machine.specs.Acked.{HasAcked}
 use Rattle.qs_conn.specs.declared.limits.Limits.{Limits}
 use Rattle.qs_conn.specs.Due.{Packets, IsToldIn}
 
@@ -61,7 +61,7 @@ own_left (Told i) xs = own_without i xs
 
 -- a packet told an item: one in flight, a lost one that is kept, or one that was acknowledged
 abbrev pub WasTold : Packets → Item → Type 0
-WasTold p i = IsCarried p.out (Told i) ⊎ IsCarried p.lost (Told i) ⊎ IsNoted p.acked i
+WasTold p i = IsCarried p.out (Told i) ⊎ IsCarried p.lost (Told i) ⊎ HasAcked p.acked i
 
 -- Of an item of the connection itself: what is kept and what packets told is the present value or a smaller one. If the present one is kept,
 -- a packet told it that isn't lost; and if one in flight tells it, it is kept (RFC 9000, section 13.3).

@@ -1,10 +1,7 @@
 //! What was acknowledged of control items.
-ghost use Rattle.std.specs.Prelude.{◌≡◌, ◌+◌, ◌-◌, ◌↔◌, ◌<◌, IsTrue, OnOk, OnErr, Some};
-ghost use Rattle.qs_ranges.specs.Numbers.{MissesRange};
-ghost use Rattle.qs_machine.specs.Ends.{no_items};
-ghost use Rattle.qs_machine.specs.FrameStep.{greatest, greatest_of};
+ghost use Rattle.std.specs.Prelude.{◌≡◌, ◌+◌, ◌≤◌, ◌↔◌, ◌<◌, ℕ, IsTrue, OnOk, OnErr, Some, true};
+ghost use Rattle.qs_machine.specs.Acked.{no_items, greatest, greatest_of, with_item, HasAcked};
 ghost use Rattle.qs_machine.specs.Memory.{NoteMayRunOut};
-ghost use Rattle.qs_machine.specs.Told.{item_noted, IsNoted};
 ghost use Rattle.std.specs.FinSet as set;
 ghost use Rattle.std.specs.FinMap as fmap;
 
@@ -30,7 +27,7 @@ pub(crate) struct ToldItems {
 }
 
 impl Model for ToldItems {
-    ghost use Rattle.qs_machine.specs.Ends.{AckedItems};
+    ghost use Rattle.qs_machine.specs.Acked.{AckedItems};
     ghost use Rattle.qs_machine.specs.EndCodes.{acked_code};
 
     ghost Value = { AckedItems };
@@ -66,7 +63,7 @@ impl ToldItems {
     }
 
     pub(crate) fn note(&mut self, item: Item) -> Result<(), NoMemory>
-        ensures ok { OnOk result (self.new ≡ item_noted item self.old) }
+        ensures ok { OnOk result (self.new ≡ with_item item self.old) }
         ensures err { OnErr result (self.new ≡ self.old) }
         ensures asks { OnErr result (NoteMayRunOut self.old item) }
     {
@@ -99,7 +96,7 @@ impl ToldItems {
     }
 
     pub(crate) fn is_acked(&self, item: Item) -> bool
-        ensures { IsTrue result ↔ IsNoted self.now item }
+        ensures { IsTrue result ↔ HasAcked self.now item }
     {
         match item {
             Item::MaxData { maximum } => self.max_data == Some(maximum),
@@ -127,11 +124,11 @@ fn greatest(known: Option<u64>, value: u64) -> Option<u64>
     }
 }
 
-#[tactic(auto, using(qs_machine::proofs::RunLaws::insert_is_range))]
+#[tactic(auto, using(qs_machine::proofs::RunLaws::insert_is_range, crate::proofs::ToldLaws::none_beside))]
 fn add(streams: &mut RangeSet, stream: StreamId) -> Result<(), NoMemory>
     ensures ok { OnOk result (streams.new ≡ set.insert streams.old stream) }
     ensures err { OnErr result (streams.new ≡ streams.old) }
-    ensures touches_none { OnErr result (MissesRange streams.old (stream - 1) (stream + 2)) }
+    ensures touches_none { OnErr result ((k : ℕ) → stream ≤ k + 1 → k ≤ stream + 1 → set.contains streams.old k ≡ true → ⊥) }
 {
     let number = stream.value();
     streams.insert(number, number + 1)
@@ -164,11 +161,11 @@ impl StreamValues {
         }
     }
 
-    #[tactic(auto, using(crate::proofs::ToldLaws::value_absent))]
+    #[tactic(auto, using(crate::proofs::ToldLaws::none_known))]
     pub(crate) fn raise(&mut self, stream: StreamId, value: u64) -> Result<(), NoMemory>
         ensures ok { OnOk result (self.new ≡ greatest_of self.old stream value) }
         ensures err { OnErr result (self.new ≡ self.old) }
-        ensures absent { OnErr result (fmap.get self.old stream ≡ None) }
+        ensures absent { OnErr result ((v : ℕ) → fmap.get self.old stream ≡ Some v → ⊥) }
     {
         let number = stream.value();
         let known = self.values.get(&number).copied().unwrap_or(0);

@@ -25,9 +25,9 @@ use Rattle.qs_send.specs.declared.piece.Piece.{Piece}
 use Rattle.qs_send.specs.declared.piece.Piece.TheVariants.{Data, Told}
 use Rattle.qs_send.proofs.Outstanding.{rest_of, get_same-without_first, get_other-without_first, unheld-without_first}
 use Rattle.qs_machine.specs.LostPackets.{LostPackets, lost_less}
-use Rattle.qs_machine.specs.Ends.{End, Records, AckedItems}
-use Rattle.qs_machine.specs.FrameStep.{greatest, greatest_of, or_zero, AckedPiece, without_piece, first_acked, piece_acked, acks, held, pieces_of, named_in, named, is_named, frame_taken}
-use Rattle.qs_machine.specs.Told.{item_noted}
+use Rattle.qs_machine.specs.Ends.{End, Records}
+use Rattle.qs_machine.specs.FrameStep.{AckedPiece, without_piece, first_acked, piece_acked, acks, held, pieces_of, named_in, named, is_named, frame_taken}
+use Rattle.qs_machine.specs.Acked.{AckedItems, greatest, greatest_of, or_zero, with_item}
 use Rattle.std.specs.List.{filter}
 use Rattle.std.proofs.lemmas.List.Concat.{flat_map-append}
 use Rattle.qs_machine.proofs.AcksAgain.{held_piece, acks_append, piece_list, bare_none, named_bare}
@@ -176,7 +176,7 @@ values_swap m n v k w = same_map nat_cmp_total nat_cmp-IsAntisymmetric _ _ (λ q
         ∙ ap (λ o. cond (nat_eq q k) (Some (max (or_zero o) w)) (fmap.get (greatest_of m n v) q)) (get_greatest m n v k)
         ∙ ap (λ o. cond (nat_eq q k) (Some (max (or_zero (cond (nat_eq k n) (Some (max (or_zero (fmap.get m n)) v)) (fmap.get m k))) w)) o) (get_greatest m n v q)
 
-items_swap : (i j : Item) (a : AckedItems) → item_noted i (item_noted j a) ≡ item_noted j (item_noted i a)
+items_swap : (i j : Item) (a : AckedItems) → with_item i (with_item j a) ≡ with_item j (with_item i a)
 items_swap (MaxData m) (MaxData n) a = ap (λ o. record a { max_data = o }) (greatest_swap a.max_data n m)
 items_swap (MaxStreamData r m) (MaxStreamData s n) a = ap (λ o. record a { max_stream_data = o }) (values_swap a.max_stream_data s n r m)
 items_swap (StopSending r c) (StopSending s d) a = ap (λ o. record a { stop_sending = o }) (same_numbers _ _ (λ n. grind (arith, set.members)))
@@ -199,7 +199,7 @@ sends_after (Told i) t = t
 
 abbrev items_after : Piece → AckedItems → AckedItems
 items_after (Data n c) a = a
-items_after (Told i) a = item_noted i a
+items_after (Told i) a = with_item i a
 
 abbrev both_after : Piece → End → End
 both_after p e = record e { sends = sends_after p e.sends; acked = items_after p e.acked }

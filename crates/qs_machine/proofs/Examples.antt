@@ -15,7 +15,8 @@ use Rattle.qs_ranges.specs.Numbers.{numbers, end_of}
 use Rattle.qs_ranges.proofs.Sets.{end_of-empty, end_of-with_range}
 use Rattle.qs_machine.specs.Tables.{lookup, update, open_to, each, total}
 use Rattle.qs_machine.specs.Verdicts.{verdict}
-use Rattle.qs_machine.specs.FrameStep.{frame_taken, AckedPiece, acked_at, or_zero, is_named, pieces_of, named_in, named}
+use Rattle.qs_machine.specs.Acked.{or_zero}
+use Rattle.qs_machine.specs.FrameStep.{frame_taken, AckedPiece, acked_at, is_named, pieces_of, named_in, named}
 use Rattle.qs_machine.specs.Examples.{RangesHold, StreamLimitHolds, ConnectionLimitHolds, FinalSizeHolds, ChangedBytesClose, StreamStateHolds, UnusedNumbersClose, LimitsMove, LowerStreamsOpen, StopResets, StopIsAnswered, BlockedIsTold, LimitsRiseAfterwards, NewLimitIsTold, StreamCountsGrow, EmptyStreamIsSent, AcksTakeWhatTheyName, Examples, letters, first_part, second_part, two_sent, three_frames, three_frames_text, third_offends, told_end, server, standard}
 use Rattle.qs_machine.specs.Ends.{End}
 use Rattle.qs_machine.specs.Seen.{Stream}

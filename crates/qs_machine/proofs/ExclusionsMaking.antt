@@ -22,7 +22,7 @@ use Rattle.qs_machine.specs.Due.{IsDue, IsCurrent, StreamGoes, Sendable, IsDueIt
 use Rattle.qs_machine.specs.SmallEnds.{client_with, chunk, wrote, all_came, abc, owing}
 use Rattle.qs_machine.specs.ExclusionsDue.{NoOffsetIsDue, NoEndIsDue, NoLimitIsTold, NoAbortIsTold, NothingIsBlocked, ToldIsNotDue, NoneIsNoAnswer, NotDue}
 use Rattle.qs_machine.proofs.SmallEndsLaws.{one_carried, only_carried, none_in, no_member}
-use Rattle.std.specs.Prelude.{Result, Ok, Err}
+use Rattle.std.specs.Prelude.{Result, Ok, Err, max}
 use Rattle.std.specs.List.{AllByRecursion}
 use Rattle.std.proofs.lemmas.List.{length-append}
 use Rattle.qs_wire.specs.Layout.{ack}
@@ -39,6 +39,7 @@ use Rattle.qs_calls.specs.declared.making.LostFault.TheVariants as losing
 use Rattle.qs_machine.specs.Ends.{End, send_lane}
 use Rattle.qs_machine.specs.Credit.{all_sent, settle}
 use Rattle.qs_machine.specs.Seen.{Seen, Ack, Stream, Control, seen_all, asks_ack, any_asks}
+use Rattle.qs_machine.specs.Acked.{or_zero}
 use Rattle.qs_machine.specs.FrameStep.{is_named}
 use Rattle.qs_machine.specs.Verdicts.{verdict}
 use Rattle.qs_machine.specs.Lawful.{MayPut, Fills, Lawful, frame_put, pieces_so_far}
@@ -125,6 +126,7 @@ told =
     record {
       in_flight = λ due. due.1 (inl (one_carried 0 (Told (MaxData 5000))));
       acked = λ due. due.1 (inr refl);
+      older_later = λ due. due.1 (inr refl);
       newer = (
         (refl, omega arith),
         λ covered. elim covered [ inl flies ↦ carried-empty _ flies | inr acked ↦ (let e : 4500 ≡ 5000 = same_Some 4500 5000 acked in omega arith) ],
@@ -140,7 +142,7 @@ told =
         (_, refl, refl, omega arith, refl),
         λ covered. elim covered [
           | inl flies ↦ carried-empty _ flies
-          | inr acked ↦ (let e : 1500 ≡ 2000 = same_Some 1500 2000 (sym (fmap.get-insert nat_cmp_total fmap.empty 0 1500 0) ∙ acked) in omega arith)
+          | inr acked ↦ (let e : 1500 ≡ 2000 = same_Some 1500 2000 (sym (fmap.get-insert nat_cmp_total fmap.empty 0 _ 0 ∙ ap (λ o. Some (max (or_zero o) 1500)) (fmap.get-empty nat_cmp 0)) ∙ acked) in omega arith)
         ],
       );
       newer_count = (

@@ -1,7 +1,6 @@
 -- Trusted.
 -- What is to be sent: bytes, ends, control items and the ACK (RFC 9000, sections 4, 13.2 and 13.3).
 use Rattle.std.specs.Prelude.{◌≡◌, ℕ, ◌+◌, ◌<◌, ◌≤◌, true, false, ◌⊎◌, Option, Some, None}
-use Rattle.std.specs.FinMap as fmap
 use Rattle.std.specs.FinSet as set
 use Rattle.qs_wire.specs.declared.stream_id.Dir.{Dir}
 use Rattle.qs_wire.specs.declared.stream_id.Dir.TheVariants.{Bidi, Uni}
@@ -14,6 +13,7 @@ use Rattle.qs_send.specs.declared.piece.Piece.{Piece}
 use Rattle.qs_send.specs.declared.piece.Piece.TheVariants.{Data, Told}
 pub use Rattle.qs_send.specs.Records.{Among}
 use Rattle.qs_send.specs.Records.{IsCarried}
+use Rattle.qs_machine.specs.Acked.{HasAcked}
 use Rattle.qs_machine.specs.Ends.{End, send_lane, recv_lane, first_window}
 use Rattle.qs_machine.specs.Credit.{all_sent, granted_streams, first_grant}
 
@@ -57,7 +57,7 @@ abbrev pub known_count : End → Dir → ℕ
 known_count e Bidi = e.known_bidi
 known_count e Uni = e.known_uni
 
--- There is a reason to tell the item, and it has its current value (RFC 9000, sections 4.1, 4.6 and 13.3).
+-- There is a reason to tell the item, and it has its present value (RFC 9000, sections 4.1, 4.6 and 13.3).
 abbrev pub IsCurrent : End → Item → Type 0
 IsCurrent e (MaxData m) = (m ≡ e.granted) × (e.settings.conn_window < m)
 IsCurrent e (MaxStreamData n m) = (l : RecvLane) × (recv_lane e n ≡ Some l) × (m ≡ l.limit) × (first_window e n < m) × (l.final_size ≡ None)
@@ -69,23 +69,17 @@ IsCurrent e (StreamDataBlocked n m) =
     (l : SendLane) × (send_lane e n ≡ Some l) × (l.was_reset ≡ None) × (m ≡ l.limit) × (l.limit < l.written) × (l.sent_end ≡ l.limit)
 IsCurrent e (StreamsBlocked d m) = (wanted e d ≡ Some m) × (m ≡ known_count e d)
 
--- an acknowledged packet told the item with this value
+-- an acknowledged packet told the item with this value; of a RESET_STREAM its half knows it
 abbrev pub IsAcked : End → Item → Type 0
-IsAcked e (MaxData m) = e.acked.max_data ≡ Some m
-IsAcked e (MaxStreamData n m) = fmap.get e.acked.max_stream_data n ≡ Some m
-IsAcked e (MaxStreams Bidi m) = e.acked.bidi_streams ≡ Some m
-IsAcked e (MaxStreams Uni m) = e.acked.uni_streams ≡ Some m
 IsAcked e (ResetStream n code size) = (l : SendLane) × (send_lane e n ≡ Some l) × (l.reset_acked ≡ true)
-IsAcked e (StopSending n code) = set.contains e.acked.stop_sending n ≡ true
-IsAcked e (DataBlocked m) = e.acked.data_blocked ≡ Some m
-IsAcked e (StreamDataBlocked n m) = fmap.get e.acked.stream_data_blocked n ≡ Some m
-IsAcked e (StreamsBlocked Bidi m) = e.acked.bidi_blocked ≡ Some m
-IsAcked e (StreamsBlocked Uni m) = e.acked.uni_blocked ≡ Some m
+IsAcked e item = HasAcked e.acked item
 
--- an outstanding or acknowledged packet told the item with this value
+-- a packet in flight or acknowledged has the item with this value
 abbrev pub IsCovered : End → Item → Type 0
 IsCovered e i = IsOutstanding e (Told i) ⊎ IsAcked e i
 
+-- An item is due where there is a reason to tell it, and no packet in flight or acknowledged has it with the present value (RFC 9000, section
+-- 13.3).
 abbrev pub IsDueItem : End → Item → Type 0
 IsDueItem e i = IsCurrent e i × (IsCovered e i → ⊥)
 

@@ -1,7 +1,6 @@
 -- Trusted.
 -- One end of a connection: its streams, its credit and its packets (RFC 9000, sections 2 to 4 and 13).
 use Rattle.std.specs.Prelude.{ℕ, ◌+◌, ◌-◌, ◌%◌, Bool, false, not, ◌&&◌, ◌==◌, nat_le, Option, None, Some, Result, Ok, Err, if◌then◌else◌}
-use Rattle.std.specs.Ordering.{nat_cmp}
 use Rattle.std.specs.FinMap as fmap
 use Rattle.std.specs.FinSet as set
 use Rattle.qs_ranges.specs.Numbers.{NumberSet}
@@ -20,25 +19,11 @@ use Rattle.qs_calls.specs.declared.closing.Closed.{Closed}
 use Rattle.qs_calls.specs.Settings.{setup_fault, wide_setup_fault, default_tuning}
 use Rattle.qs_machine.specs.Tables.{Tables, no_streams, type_of, lookup, updated, open_to}
 pub use Rattle.qs_machine.specs.LostPackets.{LostPackets, no_lost, lost_with, lost_less}
+pub use Rattle.qs_machine.specs.Acked.{AckedItems, no_items}
 
 -- the pieces of packets, by packet number (RFC 9000, section 13.3)
 abbrev pub Records : Type 0
 Records = PacketPieces
-
--- the greatest value acknowledged of each control item that was; of a RESET_STREAM the sending lane tells it (RFC 9000, section 13.3)
-pub record AckedItems : Type 0 where
-  pub max_data : Option ℕ
-  -- by stream
-  pub max_stream_data : fmap.FinMap nat_cmp ℕ
-  -- the streams of which a STOP_SENDING was acknowledged
-  pub stop_sending : NumberSet
-  pub data_blocked : Option ℕ
-  -- by stream
-  pub stream_data_blocked : fmap.FinMap nat_cmp ℕ
-  pub bidi_blocked : Option ℕ
-  pub uni_blocked : Option ℕ
-  pub bidi_streams : Option ℕ
-  pub uni_streams : Option ℕ
 
 -- the windows and grants in force, as the owner set them last, and the widest window of the connection so far (ours, beside RFC 9000,
 -- sections 4.1 and 4.6)
@@ -84,6 +69,7 @@ pub record End : Type 0 where
   pub outstanding : Records
   -- what the packets carried that were declared lost
   pub lost : LostPackets
+  -- which control items were acknowledged
   pub acked : AckedItems
   pub closed : Option Closed
 
@@ -158,11 +144,6 @@ opened_by_peer n e = if is_own e n then e else opens n e
 -- an end that closed, or saw its peer close (RFC 9000, section 10.2)
 abbrev pub closes : Closed → End → End
 closes c e = record e { closed = Some c }
-
--- no item was acknowledged (RFC 9000, section 13.3)
-abbrev pub no_items : AckedItems
-no_items =
-    record { max_data = None; max_stream_data = fmap.empty; stop_sending = set.empty; data_blocked = None; stream_data_blocked = fmap.empty; bidi_blocked = None; uni_blocked = None; bidi_streams = None; uni_streams = None }
 
 -- what is in force at first (RFC 9000, sections 4.1 and 4.6)
 abbrev pub first_present : Settings → Present

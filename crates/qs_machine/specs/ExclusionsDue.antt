@@ -8,8 +8,8 @@ use Rattle.qs_recv.specs.Lane.{stop}
 use Rattle.qs_send.specs.Lane.{SendLane}
 use Rattle.qs_send.specs.declared.piece.Item.TheVariants.{MaxData, MaxStreamData, MaxStreams, ResetStream, StopSending, DataBlocked, StreamDataBlocked, StreamsBlocked}
 use Rattle.qs_send.specs.declared.piece.Piece.TheVariants.{Data, Told}
-use Rattle.qs_machine.specs.Ends.{End, no_items}
-use Rattle.qs_machine.specs.FrameStep.{with_acked}
+use Rattle.qs_machine.specs.Ends.{End}
+use Rattle.qs_machine.specs.FrameStep.{item_acked}
 use Rattle.qs_machine.specs.Due.{IsDue, IsEndDue, IsCurrent, IsDueItem}
 use Rattle.qs_machine.specs.Making.{MakeStep}
 use Rattle.qs_machine.specs.Examples.{standard, server, client_of}
@@ -112,17 +112,19 @@ pub record ToldIsNotDue : Type 0 where
   -- while it is in flight
   pub in_flight : IsDueItem (carrying (Told (MaxData 5000)) raised) (MaxData 5000) → ⊥
   -- once it is acknowledged
-  pub acked : IsDueItem (with_acked (record no_items { max_data = Some 5000 }) raised) (MaxData 5000) → ⊥
+  pub acked : IsDueItem (item_acked (MaxData 5000) raised) (MaxData 5000) → ⊥
+  -- also where an older limit is acknowledged later
+  pub older_later : IsDueItem (item_acked (MaxData 4500) (item_acked (MaxData 5000) raised)) (MaxData 5000) → ⊥
   -- but the present limit is, where an older one was acknowledged
-  pub newer : IsDueItem (with_acked (record no_items { max_data = Some 4500 }) raised) (MaxData 5000)
+  pub newer : IsDueItem (item_acked (MaxData 4500) raised) (MaxData 5000)
   -- or is in flight
   pub newer_in_flight : IsDueItem (carrying (Told (MaxData 4500)) raised) (MaxData 5000)
   -- and so of a stream's
-  pub newer_of_stream : IsDueItem (with_acked (record no_items { max_stream_data = fmap.insert fmap.empty 0 1500 }) (server_with raised_half)) (MaxStreamData 0 2000)
+  pub newer_of_stream : IsDueItem (item_acked (MaxStreamData 0 1500) (server_with raised_half)) (MaxStreamData 0 2000)
   -- and of a count of streams
-  pub newer_count : IsDueItem (with_acked (record no_items { uni_streams = Some 9 }) (record (server standard) { granted_uni = 10 })) (MaxStreams Uni 10)
+  pub newer_count : IsDueItem (item_acked (MaxStreams Uni 9) (record (server standard) { granted_uni = 10 })) (MaxStreams Uni 10)
   -- an acknowledged STOP_SENDING isn't told again
-  pub acked_stop : IsDueItem (with_acked (record no_items { stop_sending = set.insert set.empty 0 }) (server_with (stop fresh 7))) (StopSending 0 7) → ⊥
+  pub acked_stop : IsDueItem (item_acked (StopSending 0 7) (server_with (stop fresh 7))) (StopSending 0 7) → ⊥
   -- nor an acknowledged RESET_STREAM
   pub acked_reset : IsDueItem (client_with (record reset_half { reset_acked = true })) (ResetStream 0 7 0) → ⊥
 

@@ -2,7 +2,6 @@
 -- Where memory isn't asked for, so that none can be refused, and how a payload doesn't end (RFC 9000, sections 3.2, 11.1, 13.1 and 13.3;
 -- ours where it speaks of want of memory).
 use Rattle.std.specs.Prelude.{◌≡◌, true, false, [], ◌∷◌, None, Some, Ok, Err}
-use Rattle.std.specs.FinMap as fmap
 use Rattle.std.specs.FinSet as set
 use Rattle.qs_wire.specs.declared.fault.WireFault.{WireFault}
 use Rattle.qs_wire.specs.declared.stream_id.Dir.TheVariants.{Bidi}
@@ -13,7 +12,8 @@ use Rattle.qs_send.specs.declared.piece.Piece.TheVariants.{Data, Told}
 use Rattle.qs_calls.specs.declared.closing.Closing.{Closing}
 use Rattle.qs_calls.specs.declared.closing.Received.TheVariants.{Done, Duplicate, NoMemory}
 use Rattle.qs_machine.specs.Tables.{no_streams}
-use Rattle.qs_machine.specs.Ends.{End, AckedItems, no_items}
+use Rattle.qs_machine.specs.Acked.{AckedItems, no_items, with_item}
+use Rattle.qs_machine.specs.Ends.{End}
 use Rattle.qs_machine.specs.Seen.{Ack, Stream, Control, Close, Plain}
 use Rattle.qs_machine.specs.FrameStep.{acked_at}
 use Rattle.qs_machine.specs.Memory.{MayRunOut, StopsAt}
@@ -70,10 +70,12 @@ pub record NoPieceRunsOut : Type 0 where
   pub data_blocked : StopsAtPiece no_items (Told (DataBlocked 5)) → ⊥
   pub streams_blocked : StopsAtPiece no_items (Told (StreamsBlocked Bidi 5)) → ⊥
   -- an item of a stream of which an older one was acknowledged
-  pub max_stream_data : StopsAtPiece (record no_items { max_stream_data = fmap.insert fmap.empty 0 5 }) (Told (MaxStreamData 0 9)) → ⊥
-  pub stream_blocked : StopsAtPiece (record no_items { stream_data_blocked = fmap.insert fmap.empty 0 5 }) (Told (StreamDataBlocked 0 9)) → ⊥
+  pub max_stream_data : StopsAtPiece (with_item (MaxStreamData 0 5) no_items) (Told (MaxStreamData 0 9)) → ⊥
+  pub stream_blocked : StopsAtPiece (with_item (StreamDataBlocked 0 5) no_items) (Told (StreamDataBlocked 0 9)) → ⊥
   -- a stop of a stream whose neighbour's was acknowledged
-  pub stop_sending : StopsAtPiece (record no_items { stop_sending = set.insert set.empty 1 }) (Told (StopSending 0 7)) → ⊥
+  pub stop_sending : StopsAtPiece (with_item (StopSending 1 7) no_items) (Told (StopSending 0 7)) → ⊥
+  -- though the first limit of a stream may need some, whatever was acknowledged of another
+  pub first_limit : StopsAtPiece (with_item (MaxStreamData 4 9) no_items) (Told (MaxStreamData 0 9))
   -- the end alone, without a byte
   pub end_alone : StopsAtPiece no_items (Data 0 (chunk 7 0 true)) → ⊥
   -- bytes beside acknowledged ones

@@ -13,39 +13,20 @@ use Rattle.qs_send.specs.declared.piece.Item.TheVariants.{MaxData, MaxStreamData
 use Rattle.qs_send.specs.declared.piece.Piece.{Piece}
 use Rattle.qs_send.specs.declared.piece.Piece.TheVariants.{Data, Told}
 pub use Rattle.qs_send.specs.Records.{without_first}
-use Rattle.qs_machine.specs.Ends.{End, Records, AckedItems, lost_less, on_send, on_recv, opened_by_peer}
+use Rattle.qs_machine.specs.Acked.{AckedItems, with_item}
+use Rattle.qs_machine.specs.Ends.{End, Records, lost_less, on_send, on_recv, opened_by_peer}
 use Rattle.qs_machine.specs.Seen.{Seen, Ack, Stream, Control, Close, Plain}
 use Rattle.qs_machine.specs.Verdicts.{verdict}
 
 -- Acknowledgements (RFC 9000, section 13.3)
 
-abbrev pub greatest : Option ℕ → ℕ → Option ℕ
-greatest None value = Some value
-greatest (Some known) value = Some (max known value)
-
-abbrev pub or_zero : Option ℕ → ℕ
-or_zero None = 0
-or_zero (Some known) = known
-
--- the value of a stream where it is greater than the one known
-abbrev pub greatest_of : fmap.FinMap nat_cmp ℕ → ℕ → ℕ → fmap.FinMap nat_cmp ℕ
-greatest_of values n value = fmap.insert values n (max (or_zero (fmap.get values n)) value)
-
 abbrev pub with_acked : AckedItems → End → End
 with_acked items e = record e { acked = items }
 
--- of each control item the greatest acknowledged value is known
+-- an item is acknowledged with this value; of a RESET_STREAM its half knows it
 abbrev pub item_acked : Item → End → End
-item_acked (MaxData m) e = with_acked (record e.acked { max_data = greatest e.acked.max_data m }) e
-item_acked (MaxStreamData n m) e = with_acked (record e.acked { max_stream_data = greatest_of e.acked.max_stream_data n m }) e
-item_acked (MaxStreams Bidi m) e = with_acked (record e.acked { bidi_streams = greatest e.acked.bidi_streams m }) e
-item_acked (MaxStreams Uni m) e = with_acked (record e.acked { uni_streams = greatest e.acked.uni_streams m }) e
 item_acked (ResetStream n code size) e = on_send n reset_acked_lane e
-item_acked (StopSending n code) e = with_acked (record e.acked { stop_sending = set.insert e.acked.stop_sending n }) e
-item_acked (DataBlocked m) e = with_acked (record e.acked { data_blocked = greatest e.acked.data_blocked m }) e
-item_acked (StreamDataBlocked n m) e = with_acked (record e.acked { stream_data_blocked = greatest_of e.acked.stream_data_blocked n m }) e
-item_acked (StreamsBlocked Bidi m) e = with_acked (record e.acked { bidi_blocked = greatest e.acked.bidi_blocked m }) e
-item_acked (StreamsBlocked Uni m) e = with_acked (record e.acked { uni_blocked = greatest e.acked.uni_blocked m }) e
+item_acked item e = with_acked (with_item item e.acked) e
 
 abbrev pub piece_acked : Piece → End → End
 piece_acked (Data n chunk) e = on_send n (λ l. acked_lane l chunk) e

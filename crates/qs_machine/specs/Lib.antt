@@ -1,5 +1,6 @@
 pub mod Tables
 pub mod LostPackets
+pub mod Acked
 pub mod Ends
 pub mod Credit
 pub mod Seen
@@ -35,7 +36,6 @@ pub mod Outgoing
 pub mod Repeats
 pub mod Ways
 pub mod Sums
-pub mod Told
 pub mod SmallEnds
 pub mod ExclusionsDue
 pub mod ExclusionsMaking

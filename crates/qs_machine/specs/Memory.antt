@@ -1,8 +1,7 @@
 -- Trusted.
 -- Which frame may run out of memory, and at which end: memory is refused only where it is asked for (ours for the whole file: RFC 9000
 -- says nothing of want of memory; by section 13.1 a packet of which some frame took no effect isn't acknowledged).
-use Rattle.std.specs.Prelude.{◌≡◌, ℕ, ◌+◌, ◌-◌, ◌<◌, false, IsTrue, length, ◌⊎◌, Option, None, Some, is_some, ⊤}
-use Rattle.std.specs.FinMap as fmap
+use Rattle.std.specs.Prelude.{◌≡◌, ℕ, ◌+◌, ◌-◌, ◌<◌, ◌≤◌, false, IsTrue, length, ◌⊎◌, Option, None, Some, is_some, ⊤}
 use Rattle.qs_ranges.specs.Numbers.{MissesRange, covers}
 use Rattle.qs_recv.specs.Lane.{RecvLane}
 use Rattle.qs_send.specs.Lane.{SendLane}
@@ -12,7 +11,8 @@ use Rattle.qs_send.specs.declared.piece.Item.TheVariants.{MaxData, MaxStreamData
 use Rattle.qs_send.specs.declared.piece.Piece.{Piece}
 use Rattle.qs_send.specs.declared.piece.Piece.TheVariants.{Data, Told}
 use Rattle.qs_machine.specs.Tables.{Tables, lookup}
-use Rattle.qs_machine.specs.Ends.{End, AckedItems, is_own, is_uni, send_lane, recv_lane}
+use Rattle.qs_machine.specs.Acked.{AckedItems, HasAcked}
+use Rattle.qs_machine.specs.Ends.{End, is_own, is_uni, send_lane, recv_lane}
 use Rattle.qs_machine.specs.Seen.{Seen, Ack, Stream, Control, Close, Plain}
 use Rattle.qs_machine.specs.Verdicts.{lane_of}
 use Rattle.qs_machine.specs.FrameStep.{AckedPiece}
@@ -46,15 +46,16 @@ MayRunOut e (Control i) = ItemMayRunOut e i
 MayRunOut e (Close code) = ⊥
 MayRunOut e (Plain asks) = ⊥
 
--- may it take memory to know that the item was acknowledged? Only the first of its kind on a stream.
+-- May it take memory to know that the item was acknowledged? Only where it is of a stream, and neither its present value was acknowledged
+-- yet nor an earlier one; of a stop, none of a stream beside it either.
 abbrev pub NoteMayRunOut : AckedItems → Item → Type 0
 NoteMayRunOut a (MaxData m) = ⊥
-NoteMayRunOut a (MaxStreamData n m) = fmap.get a.max_stream_data n ≡ None
+NoteMayRunOut a (MaxStreamData n m) = (v : ℕ) → HasAcked a (MaxStreamData n v) → ⊥
 NoteMayRunOut a (MaxStreams d m) = ⊥
 NoteMayRunOut a (ResetStream n code size) = ⊥
-NoteMayRunOut a (StopSending n code) = MissesRange a.stop_sending (n - 1) (n + 2)
+NoteMayRunOut a (StopSending n code) = (k : ℕ) → n ≤ k + 1 → k ≤ n + 1 → HasAcked a (StopSending k code) → ⊥
 NoteMayRunOut a (DataBlocked m) = ⊥
-NoteMayRunOut a (StreamDataBlocked n m) = fmap.get a.stream_data_blocked n ≡ None
+NoteMayRunOut a (StreamDataBlocked n m) = (v : ℕ) → HasAcked a (StreamDataBlocked n v) → ⊥
 NoteMayRunOut a (StreamsBlocked d m) = ⊥
 
 -- may it take memory to know that the chunk was acknowledged? Only where no offset in it or beside it was.

@@ -18,8 +18,8 @@ use Rattle.qs_send.specs.declared.piece.Piece.{Piece}
 use Rattle.qs_send.specs.declared.piece.Piece.TheVariants.{Data, Told}
 pub use Rattle.qs_send.specs.Records.{IsCarried, AreBelow, NoneEmpty, first_piece}
 use Rattle.qs_machine.specs.Tables.{Tables, no_streams, lookup, updated, total}
-use Rattle.qs_machine.specs.Ends.{End, Records, AckedItems, no_items, LostPackets, no_lost, lost_with, lost_less}
-pub use Rattle.qs_machine.specs.Told.{item_noted}
+use Rattle.qs_machine.specs.Ends.{End, Records, LostPackets, no_lost, lost_with, lost_less}
+use Rattle.qs_machine.specs.Acked.{AckedItems, no_items, with_item, HasAcked}
 use Rattle.qs_machine.specs.FrameStep.{without_first, AckedPiece}
 pub use Rattle.qs_machine.specs.FrameStep.{acked_at}
 use Rattle.qs_machine.specs.Due.{Among}
@@ -70,7 +70,7 @@ reset_noted (StreamsBlocked d m) t = t
 
 abbrev pub piece_acked_out : Piece → Outgoing → Outgoing
 piece_acked_out (Data n chunk) o = on_lane n (λ l. acked_lane l chunk) o
-piece_acked_out (Told item) o = record o { sends = reset_noted item o.sends; acked = item_noted item o.acked }
+piece_acked_out (Told item) o = record o { sends = reset_noted item o.sends; acked = with_item item o.acked }
 
 -- the record of packet k without its first piece: the outstanding one, or the lost one
 abbrev pub without_piece_out : Bool → ℕ → Outgoing → Outgoing
@@ -230,7 +230,7 @@ halves_acked (Told item) t = t
 
 abbrev pub items_acked : Piece → AckedItems → AckedItems
 items_acked (Data n c) a = a
-items_acked (Told item) a = item_noted item a
+items_acked (Told item) a = with_item item a
 
 -- the halves once a piece is lost
 abbrev pub halves_lost : Piece → Tables Sending → Tables Sending
@@ -258,16 +258,8 @@ IsAckedReset None = ⊥
 IsAckedReset (Some l) = l.reset_acked ≡ true
 
 abbrev pub IsAckedOut : Outgoing → Item → Type 0
-IsAckedOut o (MaxData m) = o.acked.max_data ≡ Some m
-IsAckedOut o (MaxStreamData n m) = fmap.get o.acked.max_stream_data n ≡ Some m
-IsAckedOut o (MaxStreams Bidi m) = o.acked.bidi_streams ≡ Some m
-IsAckedOut o (MaxStreams Uni m) = o.acked.uni_streams ≡ Some m
 IsAckedOut o (ResetStream n code size) = IsAckedReset (lookup o.sends n)
-IsAckedOut o (StopSending n code) = set.contains o.acked.stop_sending n ≡ true
-IsAckedOut o (DataBlocked m) = o.acked.data_blocked ≡ Some m
-IsAckedOut o (StreamDataBlocked n m) = fmap.get o.acked.stream_data_blocked n ≡ Some m
-IsAckedOut o (StreamsBlocked Bidi m) = o.acked.bidi_blocked ≡ Some m
-IsAckedOut o (StreamsBlocked Uni m) = o.acked.uni_blocked ≡ Some m
+IsAckedOut o item = HasAcked o.acked item
 
 -- a RESET_STREAM tells of a half that was reset
 abbrev pub MayTell : Tables SendLane → Item → Type 0

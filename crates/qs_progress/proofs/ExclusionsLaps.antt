@@ -18,7 +18,8 @@ use Rattle.qs_calls.specs.declared.event.Side.TheVariants.{A, B}
 use Rattle.qs_machine.specs.Tables.{lookup, total, each, update, updated}
 use Rattle.qs_machine.specs.Ends.{End, AckedItems, no_items, on_send}
 use Rattle.qs_machine.specs.Due.{IsCurrent, IsAcked, IsDueItem}
-use Rattle.qs_machine.specs.FrameStep.{greatest, or_zero, greatest_of, item_acked}
+use Rattle.qs_machine.specs.Acked.{greatest, or_zero, greatest_of}
+use Rattle.qs_machine.specs.FrameStep.{item_acked}
 use Rattle.qs_machine.specs.News.{IsReadable}
 use Rattle.qs_machine.specs.EndStep.{Call, Open, Write, Finish, Reset, Stop, StopAndDiscard, TokenLost, Lose, RaiseLimits, Set, NoteClosed}
 use Rattle.qs_machine.specs.Examples.{standard, server}

@@ -17,7 +17,8 @@ use Rattle.qs_send.specs.declared.piece.Piece.{Piece}
 use Rattle.qs_send.specs.declared.piece.Piece.TheVariants.{Data, Told}
 use Rattle.qs_machine.specs.Tables.{Tables, lookup, updated}
 use Rattle.qs_machine.specs.Ends.{End, AckedItems}
-use Rattle.qs_machine.specs.FrameStep.{piece_acked, item_acked, greatest, greatest_of, or_zero}
+use Rattle.qs_machine.specs.Acked.{greatest, greatest_of, or_zero}
+use Rattle.qs_machine.specs.FrameStep.{piece_acked, item_acked}
 use Rattle.qs_machine.proofs.TableLaws.{slots_updated}
 use Rattle.qs_progress.specs.Score.{reaches, is_done}
 use Rattle.qs_progress.specs.Outstanding.{IsReached}

@@ -24,11 +24,12 @@ use Rattle.qs_machine.proofs.Carried.{get_new, get_other, among_push, so_far}
 use Rattle.qs_runs.specs.Worlds.{end_of}
 use Rattle.qs_runs.proofs.Histories.{two_sides}
 use Rattle.qs_progress.specs.Score.{reaches}
-use Rattle.qs_progress.specs.Within.{AllWithin}
+use Rattle.qs_progress.specs.Within.{WasPut, IsWithin, AllWithin}
+use Rattle.qs_progress.specs.Acknowledged.{IsPresent}
 use Rattle.qs_progress.specs.Outstanding.{IsIn, IsReached}
 use Rattle.qs_progress.specs.Going.{WhatGoesOutIsNew}
 use Rattle.qs_progress.proofs.Items.{ItemsGrow, items_put}
-use Rattle.qs_progress.proofs.Within.{items_are_within}
+use Rattle.qs_progress.proofs.Within.{items_are_within, current_present}
 use Rattle.qs_progress.proofs.InOrder.{first_same}
 use Rattle.qs_progress.proofs.Outstanding.{StayIn, in_same, in_turn, in_put, reached_stays}
 use Rattle.qs_progress.proofs.CalmCalls.{Ends, Forms, calm_call}
@@ -38,25 +39,29 @@ use Rattle.qs_progress.proofs.CalmCalls.{Ends, Forms, calm_call}
 reached_is : (o : Option ℕ) (m : ℕ) → reaches o m ≡ true → ((k : ℕ) → o ≡ Some k → k ≤ m) → o ≡ Some m
 reached_is o m is few = grind (arith, nat_tests)
 
-pub done_acked : (e : End) → AllWithin e → (i : Item) → IsCurrent e i → IsReached e (Told i) → IsAcked e i
-done_acked e within (MaxData m) now is = reached_is e.acked.max_data m is (λ k at. let le = within (MaxData k) (inr at) in omega (arith, le, now.0))
-done_acked e within (MaxStreamData n m) (l, there, same, more, unsized) is =
-    reached_is (fmap.get e.acked.max_stream_data n) m is (λ k at.
+-- also at an end at which more was acknowledged, but nothing above the present values
+pub done_present : (e now : End) → ((i : Item) → WasPut now i → IsWithin e i) → (i : Item) → IsPresent e i → IsReached now (Told i) → IsAcked now i
+done_present e now within (MaxData m) same is = reached_is now.acked.max_data m is (λ k at. let le = within (MaxData k) (inr at) in omega (arith, le, same))
+done_present e now within (MaxStreamData n m) (l, there, same) is =
+    reached_is (fmap.get now.acked.max_stream_data n) m is (λ k at.
     let (j, found, le) = within (MaxStreamData n k) (inr at) in
     let one : j.limit ≡ l.limit = ap (λ (x : RecvLane). x.limit) (same_Some j l (sym found ∙ there)) in
     omega (arith, le, one, same))
-done_acked e within (MaxStreams Bidi m) now is = reached_is e.acked.bidi_streams m is (λ k at. let le = within (MaxStreams Bidi k) (inr at) in omega (arith, le, now.0))
-done_acked e within (MaxStreams Uni m) now is = reached_is e.acked.uni_streams m is (λ k at. let le = within (MaxStreams Uni k) (inr at) in omega (arith, le, now.0))
-done_acked e within (ResetStream n code size) now is = is
-done_acked e within (StopSending n code) now is = is
-done_acked e within (DataBlocked m) now is = reached_is e.acked.data_blocked m is (λ k at. let le = within (DataBlocked k) (inr at) in omega (arith, le, now.0))
-done_acked e within (StreamDataBlocked n m) (l, there, unreset, same, more, end) is =
-    reached_is (fmap.get e.acked.stream_data_blocked n) m is (λ k at.
+done_present e now within (MaxStreams Bidi m) same is = reached_is now.acked.bidi_streams m is (λ k at. let le = within (MaxStreams Bidi k) (inr at) in omega (arith, le, same))
+done_present e now within (MaxStreams Uni m) same is = reached_is now.acked.uni_streams m is (λ k at. let le = within (MaxStreams Uni k) (inr at) in omega (arith, le, same))
+done_present e now within (ResetStream n code size) same is = is
+done_present e now within (StopSending n code) same is = is
+done_present e now within (DataBlocked m) same is = reached_is now.acked.data_blocked m is (λ k at. let le = within (DataBlocked k) (inr at) in omega (arith, le, same))
+done_present e now within (StreamDataBlocked n m) (l, there, same) is =
+    reached_is (fmap.get now.acked.stream_data_blocked n) m is (λ k at.
     let (j, found, le) = within (StreamDataBlocked n k) (inr at) in
     let one : j.limit ≡ l.limit = ap (λ (x : SendLane). x.limit) (same_Some j l (sym found ∙ there)) in
     omega (arith, le, one, same))
-done_acked e within (StreamsBlocked Bidi m) now is = reached_is e.acked.bidi_blocked m is (λ k at. let le = within (StreamsBlocked Bidi k) (inr at) in omega (arith, le, now.1))
-done_acked e within (StreamsBlocked Uni m) now is = reached_is e.acked.uni_blocked m is (λ k at. let le = within (StreamsBlocked Uni k) (inr at) in omega (arith, le, now.1))
+done_present e now within (StreamsBlocked Bidi m) same is = reached_is now.acked.bidi_blocked m is (λ k at. let le = within (StreamsBlocked Bidi k) (inr at) in omega (arith, le, same))
+done_present e now within (StreamsBlocked Uni m) same is = reached_is now.acked.uni_blocked m is (λ k at. let le = within (StreamsBlocked Uni k) (inr at) in omega (arith, le, same))
+
+pub done_acked : (e : End) → AllWithin e → (i : Item) → IsCurrent e i → IsReached e (Told i) → IsAcked e i
+done_acked e within i now is = done_present e e within i (current_present e i now) is
 
 -- a STREAM frame that may go has an offset or an end that isn't acknowledged
 pub chunk_unreached : (e : End) (n offset : ℕ) (bytes : List ℕ) (fin : Bool) (l : SendLane) → MayCarry e n offset bytes fin l → IsReached e (Data n (chunk_of offset bytes fin)) → ⊥

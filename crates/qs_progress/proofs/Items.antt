@@ -15,7 +15,8 @@ use Rattle.qs_send.specs.declared.piece.Piece.TheVariants.{Data, Told}
 use Rattle.qs_machine.specs.Ends.{End, AckedItems, is_own, opens, opened_by_peer}
 use Rattle.qs_machine.specs.Credit.{ended}
 use Rattle.qs_machine.specs.Seen.{Seen, Ack, Stream, Control}
-use Rattle.qs_machine.specs.FrameStep.{frame_taken, AckedPiece, acks, first_acked, without_piece, piece_acked, item_acked, greatest, greatest_of, or_zero, named}
+use Rattle.qs_machine.specs.Acked.{greatest, greatest_of, or_zero}
+use Rattle.qs_machine.specs.FrameStep.{frame_taken, AckedPiece, acks, first_acked, without_piece, piece_acked, item_acked, named}
 use Rattle.qs_machine.specs.Lawful.{frame_put}
 use Rattle.qs_machine.specs.Setting.{Grant, SendBuffer, StreamWindow, count_with}
 use Rattle.qs_machine.specs.EndStep.{Call, Answer, EndStep}

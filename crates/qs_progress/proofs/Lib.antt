@@ -18,6 +18,7 @@ pub mod Steps
 pub mod Steady
 pub mod Trails
 pub mod More
+pub mod Acknowledged
 pub mod Pairs
 pub mod Comes
 pub mod TopRun

@@ -24,7 +24,8 @@ use Rattle.qs_machine.specs.Ends.{End, is_own, is_uni, on_send, on_recv, opens, 
 use Rattle.qs_machine.specs.Credit.{settle}
 use Rattle.qs_machine.specs.Recording.{recorded}
 use Rattle.qs_machine.specs.Seen.{Seen, Ack, Stream, Control}
-use Rattle.qs_machine.specs.FrameStep.{AckedPiece, acked_at, greatest, greatest_of, or_zero, held, frame_taken, frames_taken, without_piece, acks, first_acked, piece_acked, named, NoFault}
+use Rattle.qs_machine.specs.Acked.{greatest, greatest_of, or_zero}
+use Rattle.qs_machine.specs.FrameStep.{AckedPiece, acked_at, held, frame_taken, frames_taken, without_piece, acks, first_acked, piece_acked, named, NoFault}
 use Rattle.qs_machine.specs.Standing.{IsSound}
 use Rattle.qs_machine.specs.Repeats.{SentWasWritten, IsWritten}
 use Rattle.qs_machine.specs.Lawful.{Fills, frame_put, noted, pieces_so_far, chunk_of}

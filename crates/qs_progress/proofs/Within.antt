@@ -26,7 +26,8 @@ use Rattle.qs_calls.specs.declared.settings.PeerLimits.{PeerLimits}
 use Rattle.qs_calls.specs.declared.event.Side.TheVariants.{A}
 use Rattle.qs_machine.specs.Ends.{End, is_own, on_send, new_end, opens, opened_by_peer}
 use Rattle.qs_machine.specs.Seen.{Seen, Ack, Stream, Control}
-use Rattle.qs_machine.specs.FrameStep.{frame_taken, AckedPiece, held, acks, first_acked, without_piece, piece_acked, item_acked, greatest, greatest_of, or_zero, named}
+use Rattle.qs_machine.specs.Acked.{greatest, greatest_of, or_zero}
+use Rattle.qs_machine.specs.FrameStep.{frame_taken, AckedPiece, held, acks, first_acked, without_piece, piece_acked, item_acked, named}
 use Rattle.qs_machine.specs.Lawful.{MayPut, frame_put, item_put, chunk_of}
 use Rattle.qs_machine.specs.Making.{first_lost}
 use Rattle.qs_machine.specs.Due.{IsCurrent}
@@ -44,6 +45,7 @@ use Rattle.qs_runs.proofs.Histories.{two_sides}
 use Rattle.qs_runs.proofs.NewEnds.{first_world, made_first}
 use Rattle.qs_runs.proofs.Stays.{each_side}
 use Rattle.qs_progress.specs.Within.{IsKept, WasPut, IsWithin, AllWithin, ItemsAreWithin}
+use Rattle.qs_progress.specs.Acknowledged.{IsPresent}
 use Rattle.qs_progress.proofs.Items.{grown_call}
 
 -- What is acknowledged
@@ -97,7 +99,7 @@ kept_item j e i is = inl is
 carried_acked : (late : Bool) (p : Piece) (e : End) (q : Piece) → IsCarried (held late (piece_acked p e)) q → IsCarried (held late e) q
 carried_acked late p e q is = grind (arith, nat_tests)
 
-kept_piece : (p : Piece) (e : End) (i : Item) → IsKept (piece_acked p e).acked i → IsKept e.acked i ⊎ (p ≡ Told i)
+pub kept_piece : (p : Piece) (e : End) (i : Item) → IsKept (piece_acked p e).acked i → IsKept e.acked i ⊎ (p ≡ Told i)
 kept_piece (Data n c) e i is = inl is
 kept_piece (Told j) e i is = elim (kept_item j e i is) [ inl was ↦ inl was | inr same ↦ inr (ap Told (sym same)) ]
 
@@ -115,14 +117,14 @@ put_acks (p ∷ ps) e i is =
     ]
 
 -- all that an ACK takes was put before
-put_named : (ps : List AckedPiece) (e : End) (i : Item) → AllByRecursion (λ (a : AckedPiece). (late : Bool) × IsCarried (held late e) a.piece) ps → WasPut (acks ps e) i → WasPut e i
+pub put_named : (ps : List AckedPiece) (e : End) (i : Item) → AllByRecursion (λ (a : AckedPiece). (late : Bool) × IsCarried (held late e) a.piece) ps → WasPut (acks ps e) i → WasPut e i
 put_named ps e i all is =
     elim (put_acks ps e i is) [
       | inl was ↦ was
       | inr (a, among, same) ↦ (let (late, there) = All_at (λ (x : AckedPiece). (late : Bool) × IsCarried (held late e) x.piece) ps a all among in inl (late, subst (IsCarried (held late e)) same there))
     ]
 
-all_there : (ranges : List (ℕ × ℕ)) (e : End) → AllByRecursion (λ (a : AckedPiece). (late : Bool) × IsCarried (held late e) a.piece) (named e ranges)
+pub all_there : (ranges : List (ℕ × ℕ)) (e : End) → AllByRecursion (λ (a : AckedPiece). (late : Bool) × IsCarried (held late e) a.piece) (named e ranges)
 all_there ranges e = all_named (λ (a : AckedPiece). (late : Bool) × IsCarried (held late e) a.piece) ranges e (λ late k ps is at p among. (late, (k, ps, at, among)))
 
 -- Frames, packets and losses
@@ -151,7 +153,7 @@ put_item : (j : Item) (e : End) (i : Item) → WasPut (item_put j e) i → WasPu
 put_item j e i is = grind (arith, nat_tests)
 
 -- what was put before a call, or was the present value then
-abbrev FromOld : End → End → Type 0
+abbrev pub FromOld : End → End → Type 0
 FromOld old e = (i : Item) → WasPut e i → WasPut old i ⊎ IsCurrent old i
 
 put_put : (old : End) (f : Seen) (e : End) → MayPut old e f → FromOld old e → FromOld old (frame_put f e)
@@ -181,7 +183,7 @@ from_change old call (Put f) e comes h i is = put_put old f e comes h i is
 from_change old call (Lost k p) e comes h i is = h i (put_lost k p e i comes is)
 from_change old call c e comes h i is = h i is
 
-from_call : (old : End) (call : Call) (answer : CallAnswer call) (new : End) → EndStep old call answer new → FromOld old new
+pub from_call : (old : End) (call : Call) (answer : CallAnswer call) (new : End) → EndStep old call answer new → FromOld old new
 from_call old call answer new step =
     each_call old call (FromOld old) (FromOld old)
     (record {
@@ -224,16 +226,30 @@ within_call old call answer new step (StreamDataBlocked n m) (l, at, le) = let (
 within_call old call answer new step (StreamsBlocked Bidi m) is = omega (arith, is, (rises_call old call answer new step).2)
 within_call old call answer new step (StreamsBlocked Uni m) is = omega (arith, is, (rises_call old call answer new step).3)
 
--- the present value is within itself
+-- what is current has its present value
+pub current_present : (e : End) (i : Item) → IsCurrent e i → IsPresent e i
+current_present e (MaxData m) is = is.0
+current_present e (MaxStreamData n m) (l, at, same, more, unsized) = (l, at, same)
+current_present e (MaxStreams d m) is = is.0
+current_present e (ResetStream n code size) is = is
+current_present e (StopSending n code) (l, at, is, unreset, missing) = (l, at, is)
+current_present e (DataBlocked m) is = is.0
+current_present e (StreamDataBlocked n m) (l, at, no_reset, same, more, end) = (l, at, same)
+current_present e (StreamsBlocked d m) is = is.1
+
+-- and that is within itself
+pub present_within : (e : End) (i : Item) → IsPresent e i → IsWithin e i
+present_within e (MaxData m) is = omega (arith, is)
+present_within e (MaxStreamData n m) (l, at, same) = (l, at, omega (arith, same))
+present_within e (MaxStreams d m) is = omega (arith, is)
+present_within e (ResetStream n code size) is = is
+present_within e (StopSending n code) is = is
+present_within e (DataBlocked m) is = omega (arith, is)
+present_within e (StreamDataBlocked n m) (l, at, same) = (l, at, omega (arith, same))
+present_within e (StreamsBlocked d m) is = omega (arith, is)
+
 pub now_within : (e : End) (i : Item) → IsCurrent e i → IsWithin e i
-now_within e (MaxData m) is = omega (arith, is.0)
-now_within e (MaxStreamData n m) (l, at, same, more, unsized) = (l, at, omega (arith, same))
-now_within e (MaxStreams d m) is = omega (arith, is.0)
-now_within e (ResetStream n code size) is = is
-now_within e (StopSending n code) (l, at, is, unreset, missing) = (l, at, is)
-now_within e (DataBlocked m) is = omega (arith, is.0)
-now_within e (StreamDataBlocked n m) (l, at, no_reset, same, more, end) = (l, at, omega (arith, same))
-now_within e (StreamsBlocked d m) is = omega (arith, is.1)
+now_within e i is = present_within e i (current_present e i is)
 
 pub all_within_call : (old : End) (call : Call) (answer : CallAnswer call) (new : End) → EndStep old call answer new → AllWithin old → AllWithin new
 all_within_call old call answer new step h i is = grind (arith, nat_tests, from_call, within_call, now_within)

@@ -1,5 +1,6 @@
 pub mod Score
 pub mod Within
+pub mod Acknowledged
 pub mod Bound
 pub mod Exclusions
 pub mod ExclusionsLaps

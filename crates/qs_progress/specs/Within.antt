@@ -1,7 +1,6 @@
 -- Of laws.
 -- No packet holds an item whose value is above the present one, and none such was acknowledged (RFC 9000, sections 4.1, 4.6 and 13.3).
 use Rattle.std.specs.Prelude.{◌≡◌, ◌≤◌, Bool, ◌⊎◌, Some}
-use Rattle.std.specs.FinMap as fmap
 use Rattle.qs_wire.specs.declared.stream_id.Dir.TheVariants.{Bidi, Uni}
 use Rattle.qs_recv.specs.Lane.{RecvLane}
 use Rattle.qs_send.specs.Lane.{SendLane}
@@ -11,25 +10,18 @@ use Rattle.qs_send.specs.declared.piece.Item.TheVariants.{MaxData, MaxStreamData
 use Rattle.qs_send.specs.declared.piece.Piece.TheVariants.{Told}
 use Rattle.qs_calls.specs.declared.settings.Settings.{Settings}
 use Rattle.qs_calls.specs.declared.event.Side.{Side}
-use Rattle.qs_machine.specs.Ends.{End, AckedItems, send_lane, recv_lane}
+use Rattle.qs_machine.specs.Acked.{AckedItems, HasAcked}
+use Rattle.qs_machine.specs.Ends.{End, send_lane, recv_lane}
 use Rattle.qs_machine.specs.Credit.{granted_streams}
 use Rattle.qs_machine.specs.Due.{known_count}
 use Rattle.qs_machine.specs.FrameStep.{held}
 use Rattle.qs_runs.specs.Logs.{History}
 use Rattle.qs_runs.specs.Worlds.{World, end_of, Run}
 
--- the value is what is kept as the greatest one acknowledged; of a reset and a stop none is kept
+-- the item was acknowledged with this value; a reset and a stop have but one, which isn't asked here
 abbrev pub IsKept : AckedItems → Item → Type 0
-IsKept a (MaxData m) = a.max_data ≡ Some m
-IsKept a (MaxStreamData n m) = fmap.get a.max_stream_data n ≡ Some m
-IsKept a (MaxStreams Bidi m) = a.bidi_streams ≡ Some m
-IsKept a (MaxStreams Uni m) = a.uni_streams ≡ Some m
-IsKept a (ResetStream n code size) = ⊥
 IsKept a (StopSending n code) = ⊥
-IsKept a (DataBlocked m) = a.data_blocked ≡ Some m
-IsKept a (StreamDataBlocked n m) = fmap.get a.stream_data_blocked n ≡ Some m
-IsKept a (StreamsBlocked Bidi m) = a.bidi_blocked ≡ Some m
-IsKept a (StreamsBlocked Uni m) = a.uni_blocked ≡ Some m
+IsKept a item = HasAcked a item
 
 -- the item stands in an outstanding packet or a lost one, or was acknowledged with this value
 abbrev pub WasPut : End → Item → Type 0

@@ -2,6 +2,7 @@
 
 ghost use Rattle.qs_progress.specs.Score.{WhatIsDoneStays};
 ghost use Rattle.qs_progress.specs.Within.{ItemsAreWithin};
+ghost use Rattle.qs_progress.specs.Acknowledged.{AcknowledgedGoesByValue, AcksTellPresent, OnlyAcksTell};
 ghost use Rattle.qs_progress.specs.Bound.{DoneIsBounded};
 ghost use Rattle.qs_progress.specs.Outstanding.{WhatIsOutStays};
 ghost use Rattle.qs_progress.specs.Going.{WhatGoesOutIsNew};
@@ -26,6 +27,21 @@ pub fn done_is_bounded()
 /// In every run no packet of an end, outstanding or lost, holds an item whose value is above the present one, and none such was acknowledged.
 pub fn items_are_within()
     ensures { ItemsAreWithin }
+{}
+
+/// Whatever happens, an item that was acknowledged with its present value stays so until the value changes, and isn't from then on.
+pub fn acknowledged_goes_by_value()
+    ensures { AcknowledgedGoesByValue }
+{}
+
+/// An ACK acknowledges the present value of each item that stands in a packet that it names.
+pub fn acks_tell_present()
+    ensures { AcksTellPresent }
+{}
+
+/// And no other frame acknowledges a value.
+pub fn only_acks_tell()
+    ensures { OnlyAcksTell }
 {}
 
 /// Where nothing is lost, asked for, set or closed, what an outstanding packet carries stays outstanding, or is acknowledged.

@@ -16,7 +16,8 @@ use Rattle.qs_machine.specs.Tables.{Tables, lookup, updated, open_to}
 use Rattle.qs_machine.specs.Ends.{End, AckedItems, on_send, is_own, is_uni, opens, opened_by_peer, first_send_limit}
 use Rattle.qs_machine.specs.Setting.{Grant, SendBuffer, StreamWindow}
 use Rattle.qs_machine.specs.Seen.{Seen, Ack, Stream, Control}
-use Rattle.qs_machine.specs.FrameStep.{AckedPiece, frame_taken, item_taken, piece_acked, item_acked, acks, without_piece, first_acked, named, greatest, or_zero}
+use Rattle.qs_machine.specs.Acked.{greatest, or_zero}
+use Rattle.qs_machine.specs.FrameStep.{AckedPiece, frame_taken, item_taken, piece_acked, item_acked, acks, without_piece, first_acked, named}
 use Rattle.qs_machine.specs.Lawful.{frame_put, item_put, chunk_of}
 use Rattle.qs_machine.proofs.TableLaws.{slots_updated, slots_opened}
 use Rattle.qs_machine.proofs.TablesAfter.{KeptIn, kept_same, kept_twice, kept_updated, kept_open}

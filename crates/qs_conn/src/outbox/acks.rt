@@ -5,11 +5,12 @@ ghost use Rattle.qs_send.specs.declared.piece.Piece.TheVariants as pieces;
 ghost use Rattle.qs_send.specs.AckPass.{Falls, IsNextNamed};
 ghost use Rattle.qs_send.specs.Chunks.{WasSent};
 ghost use Rattle.qs_send.specs.Lane.{Sending, after_reset_acked, after_acked, after_lost};
+ghost use Rattle.qs_machine.specs.Acked.{with_item};
 ghost use Rattle.qs_machine.specs.Tables.{lookup, updated};
 ghost use Rattle.qs_machine.specs.Asking.{IsNextOutstanding};
 ghost use Rattle.qs_machine.specs.Memory.{ChunkMayRunOut, NoteMayRunOut, PieceMayRunOut};
 ghost use Rattle.qs_machine.specs.Sums.{or_no_sending, tables_of};
-ghost use Rattle.qs_machine.specs.Outgoing.{lanes_of, first_piece, first_acked_out, first_lost_out, acked_at, IsIdle, IsSentPiece, NoneEmpty, item_noted, halves_acked, items_acked, halves_lost};
+ghost use Rattle.qs_machine.specs.Outgoing.{lanes_of, first_piece, first_acked_out, first_lost_out, acked_at, IsIdle, IsSentPiece, NoneEmpty, halves_acked, items_acked, halves_lost};
 ghost use Rattle.qs_conn.specs.Runs.{held_out};
 
 use super::halves::half_of;
@@ -225,7 +226,7 @@ fn item_acked(types: &mut [SendLanes; 4], told: &mut ToldItems, item: Item) -> R
     requires { IsSentPiece (tables_of types.old) (pieces.Told item) }
     ensures len { length types.new ≡ 4 }
     ensures halves { OnOk result (tables_of types.new ≡ halves_acked (pieces.Told item) (tables_of types.old)) }
-    ensures items { OnOk result (told.new ≡ item_noted item told.old) }
+    ensures items { OnOk result (told.new ≡ with_item item told.old) }
     ensures err { OnErr result (tables_of types.new ≡ tables_of types.old) }
     ensures same { OnErr result (told.new ≡ told.old) }
     ensures asks { OnErr result (NoteMayRunOut told.old item) }
