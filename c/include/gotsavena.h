@@ -516,8 +516,7 @@ GV_API gv_status gv_receive(gv_endpoint *end, uint64_t number, const uint8_t *pa
 
 /** As gv_receive(), and told is called for each packet that the payload newly acknowledged, once: one that was outstanding, that an ACK of
  * the payload names, and that isn't outstanding any more (section 13.3). They come in the order of the ACKs, of each ACK the highest number
- * first, as congestion control wants them (RFC 9002, section 7). The payload is read once, where gv_next_newly_acked() reads it for each
- * answer. told gets the context. It runs once the payload was processed, on the thread of this call, returns to it, and may not call the
+ * first, as congestion control wants them (RFC 9002, section 7). The payload is read once. told gets the context. It runs once the payload was processed, on the thread of this call, returns to it, and may not call the
  * endpoint. ::GV_NO_MEMORY: there is none for the numbers, and nothing changed; or it is that of gv_receive(), and then the same payload
  * may come again and names the others.
  *
@@ -561,12 +560,6 @@ GV_API gv_status gv_ack_is_due(const gv_endpoint *end, bool *answer);
 /** The lowest number from one on of an outstanding packet: it was made, asks for an ACK, and is neither acknowledged nor declared lost.
  * ::GV_NONE: there is none (section 13.3). */
 GV_API gv_status gv_next_outstanding(const gv_endpoint *end, uint64_t from, uint64_t *number);
-
-/** The lowest number from one on of an outstanding packet that an ACK of this payload names. Ask before gv_receive() of the payload, after
- * which they are gone, and again from the number after each answer. It reads up to the first fault or the first CONNECTION_CLOSE, and
- * doesn't check whether gv_receive() would accept the payload. gv_receive_with_acks() names all in one reading, and is better. ::GV_NONE:
- * there is none (section 13.3; RFC 9002, section 7). */
-GV_API gv_status gv_next_newly_acked(const gv_endpoint *end, const uint8_t *payload, size_t len, uint64_t from, uint64_t *number);
 
 /** @}
  * @name Frames and tokens

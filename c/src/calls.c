@@ -216,14 +216,6 @@ gv_status gv_make_ack(gv_endpoint *end, uint64_t delay, uint8_t *out, size_t roo
   return give_made(made, status, got);
 }
 
-gv_status gv_next_newly_acked(const gv_endpoint *end, const uint8_t *payload, size_t len, uint64_t from, uint64_t *number) {
-  uint64_t got = 0;
-  if (end == NULL || number == NULL || !is_slice(payload, len)) return GV_INVALID;
-  gv_status status = leave(end, gvp_next_newly_acked(enter(end), read_from(payload, len), len, from, &got));
-  if (status == GV_OK) *number = got;
-  return status;
-}
-
 /* Events. */
 
 gv_status gv_next_event(gv_endpoint *end, gv_event *event) {

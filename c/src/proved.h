@@ -206,7 +206,6 @@ uint32_t gvp_make_ack(gvp_handle *end, uint64_t delay, uint8_t *out, size_t out_
 uint32_t gvp_make_packet_from(gvp_handle *end, uint64_t first, uint64_t delay, uint8_t *out, size_t out_len, gvp_made *made);
 uint32_t gvp_new(gvp_handle *end, uint32_t role, const gvp_settings *settings, const gvp_tuning *tuning, const gvp_limits *peer);
 uint32_t gvp_next_ended(gvp_handle *end, uint64_t from, uint64_t *stream);
-uint32_t gvp_next_newly_acked(gvp_handle *end, const uint8_t *payload, size_t payload_len, uint64_t from, uint64_t *number);
 uint32_t gvp_next_news(gvp_heard *heard, gvp_handle *end, gvp_news *news);
 uint32_t gvp_next_number(gvp_handle *end, uint64_t *number);
 uint32_t gvp_next_outstanding(gvp_handle *end, uint64_t from, uint64_t *number);

@@ -278,16 +278,6 @@ fn outstanding(end: &Endpoint) -> Vec<u64> {
     numbers
 }
 
-fn newly_acked(end: &Endpoint, payload: &[u8]) -> Vec<u64> {
-    let mut numbers = Vec::new();
-    let mut from = 0;
-    while let Some(number) = end.next_newly_acked(payload, from) {
-        numbers.push(number);
-        from = number + 1;
-    }
-    numbers
-}
-
 // What a payload acknowledged for the first time was outstanding before it and isn't after it.
 #[test]
 fn newly_acknowledged_packets_are_told_by_what_is_outstanding() {
@@ -308,9 +298,7 @@ fn newly_acknowledged_packets_are_told_by_what_is_outstanding() {
     let mut ack = [0; 200];
     let made = server.make_packet(&mut ack).expect("open").expect("an ACK");
     let before = outstanding(&client);
-    let told = newly_acked(&client, &ack[..made.len]);
-    let taken = client.receive(0, &ack[..made.len]);
-    assert_eq!(taken, Ok(Received::Done));
+    let told = told(&mut client, 0, &ack[..made.len]);
     let after = outstanding(&client);
     let newly: Vec<u64> = before
         .iter()
@@ -318,8 +306,7 @@ fn newly_acknowledged_packets_are_told_by_what_is_outstanding() {
         .filter(|number| !after.contains(number))
         .collect();
     assert_eq!(newly, [0, 1, 3]);
-    assert_eq!(told, newly);
-    assert_eq!(newly_acked(&client, &ack[..made.len]), []);
+    assert_eq!(told, [3, 1, 0]);
     // The same ACK in another packet acknowledges nothing more.
     let taken = client.receive(1, &ack[..made.len]);
     assert_eq!(taken, Ok(Received::Done));
@@ -390,33 +377,6 @@ fn what_took_effect_alone_is_told() {
     assert_eq!((answer, count), (Err(ReceiveFault::Invalid), 0));
     let answer = client.receive_with_acks(1 << 62, &low, |_| count += 1);
     assert_eq!((answer, count), (Err(ReceiveFault::Invalid), 0));
-}
-
-// Several ACKs in one payload count together; one behind a CONNECTION_CLOSE or behind bytes that are no frame doesn't.
-#[test]
-fn newly_acknowledged_packets_are_told_of_each_ack_that_is_read() {
-    let mut client = six_sent();
-    // The type, the largest number, the delay, no further range, and how many more the first range has.
-    let (low, high, both) = ([2, 1, 0, 0, 1], [2, 4, 0, 0, 0], [2, 5, 0, 1, 0, 2, 0]);
-    let close = [0x1d, 0, 0];
-    assert_eq!(newly_acked(&client, &low), [0, 1]);
-    assert_eq!(newly_acked(&client, &both), [1, 5]);
-    assert_eq!(newly_acked(&client, &[&high[..], &low].concat()), [0, 1, 4]);
-    assert_eq!(newly_acked(&client, &[&low[..], &both].concat()), [0, 1, 5]);
-    assert_eq!(
-        newly_acked(&client, &[&high[..], &close, &low].concat()),
-        [4]
-    );
-    assert_eq!(
-        newly_acked(&client, &[&low[..], &[0x21], &high].concat()),
-        [0, 1]
-    );
-    assert_eq!(newly_acked(&client, &[2, 60, 0, 0, 60]), [0, 1, 2, 3, 4, 5]);
-    assert_eq!(client.next_newly_acked(&both, 6), None);
-    assert_eq!(client.next_newly_acked(&both, u64::MAX), None);
-    assert_eq!(newly_acked(&client, &[]), []);
-    client.declare_lost(1).expect("outstanding");
-    assert_eq!(newly_acked(&client, &low), [0]);
 }
 
 // The first code that came stays; of a half that was reset before, or that was acknowledged whole, none is told.

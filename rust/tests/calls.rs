@@ -87,7 +87,6 @@ fn told(end: &Endpoint, stream: StreamId) -> String {
         (end.kept_sum(), end.peek(stream)),
         (end.stopped_with(stream), end.peer_closed()),
         end.next_outstanding(0),
-        end.next_newly_acked(&[2, 9, 0, 0, 9], 0),
         end.streams_left(Dir::Bidi),
         end.open_left(Dir::Uni),
     );

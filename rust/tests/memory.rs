@@ -136,10 +136,7 @@ fn questions(end: &mut Endpoint, number: u64) {
     _ = (end.kept_sum(), end.peek(stream).is_ok());
     _ = (end.next_readable(stream), end.next_sendable(stream));
     _ = (end.next_writable(stream), end.next_ended(stream));
-    _ = (
-        end.next_outstanding(number),
-        end.next_newly_acked(&[2, 0, 0, 0, 0], number),
-    );
+    _ = end.next_outstanding(number);
     _ = end.raise_limits(Settings::small().limits());
     _ = (end.set_conn_window(4096), end.set_grant(Dir::Bidi, 8));
 }

@@ -361,15 +361,8 @@ int main(void) {
   want(gv_claim_number(end, &number), GV_OK, "claim");
   want(number == 1 ? GV_OK : GV_INVALID, GV_OK, "it has that number");
   want(gv_next_outstanding(end, 0, &number), GV_NONE, "outstanding");
-  want(gv_next_newly_acked(end, ack_of_2, sizeof ack_of_2, 0, &number), GV_NONE, "nothing is acknowledged");
   want(gv_make_packet(end, room, 1200, &made), GV_OK, "make the end");
   want(made.number == 2 && made.is_ack_eliciting ? GV_OK : GV_INVALID, GV_OK, "packet 2");
-  want(gv_next_newly_acked(end, ack_of_2, sizeof ack_of_2, 0, &number), GV_OK, "acknowledged");
-  want(number == 2 ? GV_OK : GV_INVALID, GV_OK, "packet 2 is acknowledged");
-  want(gv_next_newly_acked(end, ack_of_2, sizeof ack_of_2, 3, &number), GV_NONE, "acknowledged from 3 on");
-  want(gv_next_newly_acked(end, NULL, 0, 0, &number), GV_NONE, "acknowledged by nothing");
-  want(gv_next_newly_acked(end, NULL, 1, 0, &number), GV_INVALID, "acknowledged by null");
-  want(gv_next_newly_acked(end, ack_of_2, sizeof ack_of_2, 0, NULL), GV_INVALID, "acknowledged to null");
   want(gv_receive_with_acks(end, 5, ack_of_2, sizeof ack_of_2, count_one, &told), GV_DUPLICATE, "receive the PING's number again");
   want(told == 0 ? GV_OK : GV_INVALID, GV_OK, "nothing is told");
   want(gv_token_acked(end, token_at(end, 3)), GV_NOT_GIVEN, "acked past the last");

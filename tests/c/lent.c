@@ -48,7 +48,6 @@ static void are_right(const gv_peeked *peeked, uint64_t offset) {
 }
 
 static void ask_all(const gv_endpoint *end) {
-  static const uint8_t ping[] = {0x01};
   uint8_t out[64];
   uint64_t number = 0, other = 0;
   size_t len = 0;
@@ -63,7 +62,6 @@ static void ask_all(const gv_endpoint *end) {
   (void)gv_is_sendable(end, &answer);
   (void)gv_ack_is_due(end, &answer);
   (void)gv_next_outstanding(end, 0, &number);
-  (void)gv_next_newly_acked(end, ping, sizeof ping, 0, &number);
   (void)gv_token_of(end, 0, &token);
   (void)gv_next_readable(end, 0, &number);
   (void)gv_next_writable(end, 0, &number);

@@ -228,31 +228,23 @@ static void print_closing(gv_closing_info closing) {
   print("closing 0x%02" PRIx64 " 0x%02" PRIx64 " %zu", closing.code, closing.frame_type, closing.place);
 }
 
-/* The packets of an end before it takes a payload in: which stay outstanding, and which are newly acknowledged. */
+/* Which packets of an end are outstanding, less those that were told as acknowledged. */
 typedef struct acks {
   uint64_t count;
-  bool *left, *newly;
+  bool *left;
 } acks;
 
-static acks acks_of(int side, const uint8_t *payload, size_t len) {
-  uint64_t count = made_count[side], acked;
-  acks all = {count, more(NULL, (size_t)count + 1), more(NULL, (size_t)count + 1)};
-  for (uint64_t i = 0; i < count; i++) {
-    all.left[i] = names(gv_next_outstanding, ends[side], i);
-    all.newly[i] = false;
-  }
-  for (uint64_t from = 0; gv_next_newly_acked(ends[side], payload, len, from, &acked) == GV_OK; from = acked + 1) {
-    check(from <= acked && acked < count && all.left[acked], "what is newly acknowledged is outstanding");
-    all.left[acked] = false;
-    all.newly[acked] = true;
-  }
+static acks acks_of(int side) {
+  uint64_t count = made_count[side];
+  acks all = {count, more(NULL, (size_t)count + 1)};
+  for (uint64_t i = 0; i < count; i++) all.left[i] = names(gv_next_outstanding, ends[side], i);
   return all;
 }
 
 static void tell(void *context, uint64_t number) {
   acks *all = context;
-  check(number < all->count && all->newly[number], "what is told is newly acknowledged, and told once");
-  all->newly[number] = false;
+  check(number < all->count && all->left[number], "what is told was outstanding, and is told once");
+  all->left[number] = false;
 }
 
 static void deliver(int side, uint64_t number) {
@@ -262,14 +254,12 @@ static void deliver(int side, uint64_t number) {
   gv_endpoint *end = ends[1 - side];
   gv_closing_info closing = {.size = sizeof closing};
   uint64_t code = 0;
-  acks all = acks_of(1 - side, payload, it->len);
+  acks all = acks_of(1 - side);
   gv_status status = gv_receive_with_acks(end, number, payload, it->len, tell, &all);
   for (uint64_t i = 0; status == GV_OK && i < all.count; i++) {
-    check(names(gv_next_outstanding, end, i) == all.left[i], "what a payload newly acknowledges is outstanding no more");
-    check(!all.newly[i], "what is newly acknowledged is told");
+    check(names(gv_next_outstanding, end, i) == all.left[i], "what a payload newly acknowledges is told, and outstanding no more");
   }
   free(all.left);
-  free(all.newly);
   check((status == GV_CLOSED_BY_PEER) == (gv_peer_closed(end, &code) == GV_OK), "the peer closed");
   if (status == GV_OK) {
     print("done");

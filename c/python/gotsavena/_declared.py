@@ -306,7 +306,6 @@ gv_status gv_next_number(const gv_endpoint *end, uint64_t *number);
 gv_status gv_is_sendable(const gv_endpoint *end, bool *answer);
 gv_status gv_ack_is_due(const gv_endpoint *end, bool *answer);
 gv_status gv_next_outstanding(const gv_endpoint *end, uint64_t from, uint64_t *number);
-gv_status gv_next_newly_acked(const gv_endpoint *end, const uint8_t *payload, size_t len, uint64_t from, uint64_t *number);
 gv_status gv_take_frame(gv_endpoint *end, const gv_frame *frame, gv_taken *taken);
 gv_status gv_take_frames(gv_endpoint *end, const gv_frame *frames, size_t count, gv_taken *taken);
 gv_status gv_fill(gv_endpoint *end, const gv_fill_request *want, uint8_t *out, size_t room, gv_filled *filled);

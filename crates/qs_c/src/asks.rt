@@ -2,7 +2,6 @@
 ghost use Rattle.std.specs.Prelude.{◌≡◌, ◌↔◌, ℕ, Option, option_map, IsTrue, MatchBool};
 ghost use Rattle.qs_machine.specs.News.{IsLeast, IsReadable, IsWritable, IsSendable, IsEnded};
 ghost use Rattle.qs_machine.specs.Asking.{all_noted, GoesBesideAck, peer_closing, streams_left, open_left, is_blocked, credit_left, room, unsent, acked_below, stopped_with, IsNextOutstanding};
-ghost use Rattle.qs_machine.specs.Newly.{IsNewlyAcked};
 ghost use Rattle.qs_machine.specs.Credit.{spent, all_stored, granted_streams};
 ghost use Rattle.qs_machine.specs.Reports.{lane_report};
 ghost use Rattle.qs_conn.specs.Held.{IsHeldBy};
@@ -205,12 +204,6 @@ impl Thing {
         ensures { (a : Option ℕ) × ((result, number.new) ≡ found a number.old) × IsNextOutstanding self.now.outstanding from a }
     {
         of_number(self.end.next_outstanding(from), number)
-    }
-
-    pub(crate) fn next_newly_acked(&self, payload: &[u8], from: u64, number: &mut u64) -> u32
-        ensures { (a : Option ℕ) × ((result, number.new) ≡ found a number.old) × IsLeast (IsNewlyAcked self.now payload.now) from a }
-    {
-        of_number(self.end.next_newly_acked(payload, from), number)
     }
 
     pub(crate) fn lane_report(&self, stream: u64, lane: &mut GvLane) -> u32

@@ -54,7 +54,6 @@ ghost use Rattle.qs_machine.specs.Making.{MakeStep, MakeAckStep, ClaimStep, Lose
 ghost use Rattle.qs_machine.specs.Raising.{RaiseStep};
 ghost use Rattle.qs_machine.specs.News.{IsLeast, IsReadable, IsWritable, IsSendable, IsEnded};
 ghost use Rattle.qs_machine.specs.Asking.{all_noted, GoesBesideAck, peer_closing, streams_left, open_left, is_blocked, credit_left, room, unsent, acked_below, stopped_with, IsNextOutstanding};
-ghost use Rattle.qs_machine.specs.Newly.{IsNewlyAcked};
 ghost use Rattle.qs_machine.specs.Credit.{spent, all_stored, granted_streams};
 ghost use Rattle.qs_machine.specs.Reports.{own_closing, lane_report};
 ghost use Rattle.qs_conn.specs.Written.{made_text, KeepsRest};
@@ -640,24 +639,6 @@ pub extern "C" fn gvp_next_outstanding(
         return INVALID;
     };
     let status = thing.next_outstanding(from, number);
-    end.put(thing);
-    status
-}
-
-#[unsafe(no_mangle)]
-pub extern "C" fn gvp_next_newly_acked(
-    alloc: Global,
-    end: &mut Handle,
-    payload: &[u8],
-    from: u64,
-    number: &mut u64,
-) -> u32
-    ensures { Asked end.old.cell.value end.new.cell.value true (Invalid result number.old number.new) (λ e. (a : Option ℕ) × ((result, number.new) ≡ found a number.old) × IsLeast (IsNewlyAcked e payload.now) from a) }
-{
-    let Some(thing) = end.take(alloc) else {
-        return INVALID;
-    };
-    let status = thing.next_newly_acked(payload, from, number);
     end.put(thing);
     status
 }

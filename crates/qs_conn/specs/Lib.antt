@@ -14,7 +14,6 @@ pub mod Words
 pub mod Sending
 pub mod Due
 pub mod OwnTold
-pub mod Named
 pub mod Seen
 pub mod Held
 pub mod Rooms

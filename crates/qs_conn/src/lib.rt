@@ -1,7 +1,6 @@
 //! One endpoint of a connection: its streams, its flow control, and what its packets carry.
 #![tactic(auto)]
 
-mod ack_names;
 mod bits;
 mod blocked;
 mod by_dir;

@@ -84,8 +84,6 @@ exports! {
     gvp_new(end: &mut Handle, role: u32, settings: &GvSettings, tuning: &GvTuning, peer: &GvLimits)
         = gvp_new(Global, end, role, settings, tuning, peer);
     gvp_next_ended(end: &mut Handle, from: u64, stream: &mut u64) = gvp_next_ended(Global, end, from, stream);
-    gvp_next_newly_acked(end: &mut Handle, payload: *const u8, payload_len: usize, from: u64, number: &mut u64)
-        = gvp_next_newly_acked(Global, end, read!(payload, payload_len), from, number);
     gvp_next_news(heard: &mut ListenerHandle, end: &mut Handle, news: &mut GvNews) = events::gvp_next_news(Global, heard, end, news);
     gvp_next_number(end: &mut Handle, number: &mut u64) = gvp_next_number(Global, end, number);
     gvp_next_outstanding(end: &mut Handle, from: u64, number: &mut u64) = gvp_next_outstanding(Global, end, from, number);

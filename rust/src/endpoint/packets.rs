@@ -367,34 +367,6 @@ impl Endpoint {
     pub fn next_outstanding(&self, from: u64) -> Option<u64> {
         self.inner.next_outstanding(from)
     }
-
-    /// The lowest number at or above `from` of an outstanding packet that an ACK of the payload names. [`Endpoint::receive`] of that
-    /// payload will acknowledge it (RFC 9000, section 13.3), so ask before it: afterwards they are gone. `None` if there is none.
-    /// [`Endpoint::receive_with_acks`] names all of them in one reading, and is better.
-    ///
-    /// The reading ends at the first bytes that are no frame, and at a CONNECTION_CLOSE, as `receive` does. Nothing else of the payload is
-    /// checked: not whether its number was processed before, nor whether a frame breaks a rule.
-    ///
-    /// Each call reads the payload once, and once more for each gap between the ranges that it passes.
-    ///
-    /// ```
-    /// # use gotsavena::{Dir, Endpoint, Received, Role, Settings};
-    /// # let settings = Settings::default();
-    /// # let mut client = Endpoint::new(Role::Client, settings, settings.limits())?;
-    /// # let mut server = Endpoint::new(Role::Server, settings, settings.limits())?;
-    /// # let mut payload = [0; 1200];
-    /// let stream = client.open(Dir::Uni)?;
-    /// client.write(stream, b"hello")?;
-    /// let made = client.make_packet(&mut payload)?.expect("bytes are pending");
-    /// assert_eq!(server.receive(made.number, &payload[..made.len])?, Received::Done);
-    /// let ack = server.make_packet(&mut payload)?.expect("an ACK is pending");
-    /// assert_eq!(client.next_newly_acked(&payload[..ack.len], 0), Some(made.number));
-    /// # Ok::<(), Box<dyn std::error::Error>>(())
-    /// ```
-    #[must_use]
-    pub fn next_newly_acked(&self, payload: &[u8], from: u64) -> Option<u64> {
-        self.inner.next_newly_acked(payload, from)
-    }
 }
 
 // One type for all closures, so that the crate has one copy of the code that receives a payload.

@@ -5,7 +5,7 @@ ghost use Rattle.qs_wire.specs.Grammar.{Fits};
 ghost use Rattle.qs_wire.specs.Reading.{view_placed};
 ghost use Rattle.qs_send.specs.Records.{NoneEmpty};
 ghost use Rattle.qs_machine.specs.Ends.{closes};
-ghost use Rattle.qs_machine.specs.Newly.{newly_acked, IsNewlyAcked};
+ghost use Rattle.qs_machine.specs.Newly.{newly_acked};
 ghost use Rattle.qs_machine.specs.Seen.{seen};
 ghost use Rattle.qs_machine.specs.Receiving.{ReceiveStep, TakesPayload, AtEnd, closing_at, closing_of, noted_receive, noted_of_us};
 ghost use Rattle.qs_conn.specs.Layers.{TakesFrame};
@@ -16,7 +16,6 @@ ghost use Rattle.qs_machine.specs.News.{IsLeast};
 ghost use Rattle.std.specs.FinSet as set;
 
 use super::Endpoint;
-use crate::ack_names::next_named;
 use crate::newly_told::{Silent, Told};
 use crate::seen::{SeenFrame, asks_ack, seen};
 use qs_calls::{Closed, Closer, Closing, NotedClose, Received};
@@ -207,34 +206,6 @@ impl Endpoint {
         self.floor = trim(&mut self.done, self.floor);
         self.ack_due |= asks;
         Ok(())
-    }
-
-    /// The lowest number at or above `from` of an outstanding packet that an ACK of the payload names, by one reading of the payload for
-    /// each answer; `receive_with_acks` names all in one. `receive` of that payload will acknowledge it (RFC 9000, section 13.3), so ask
-    /// before it. `None` if there is none.
-    ///
-    /// The reading ends no later than that of `receive`: at the first bytes that are no frame, and at a CONNECTION_CLOSE. Nothing else of
-    /// the payload is checked: not whether its number was processed before, nor whether a frame breaks a rule.
-    ///
-    /// It takes no memory. Each answer reads the payload once, its frames and the ranges of its ACKs, and once more for each gap between
-    /// the ranges that it passes.
-    #[tactic(auto, using(crate::proofs::Asked::none_below, crate::proofs::Asked::none_outstanding, crate::proofs::Asked::none_named, crate::proofs::Asked::goes_on, crate::proofs::Asked::is_newly))]
-    pub fn next_newly_acked(&self, payload: &[u8], from: u64) -> Option<u64>
-        ensures { IsLeast (IsNewlyAcked self.now payload.now) from result }
-    {
-        let mut next = from;
-        loop {
-            let Some(number) = self.next_outstanding(next) else {
-                return None;
-            };
-            let Some(named) = next_named(payload, number) else {
-                return None;
-            };
-            if named == number {
-                return Some(number);
-            }
-            next = named;
-        }
     }
 }
 

@@ -1,7 +1,6 @@
 // Made from crates/qs_conn/src/lib.rt by rust/erase; not edited by hand.
 //! One endpoint of a connection: its streams, its flow control, and what its packets carry.
 
-mod ack_names;
 mod bits;
 mod blocked;
 mod by_dir;

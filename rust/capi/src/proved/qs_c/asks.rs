@@ -153,10 +153,6 @@ impl Thing {
         of_number(self.end.next_outstanding(from), number)
     }
 
-    pub(crate) fn next_newly_acked(&self, payload: &[u8], from: u64, number: &mut u64) -> u32 {
-        of_number(self.end.next_newly_acked(payload, from), number)
-    }
-
     pub(crate) fn lane_report(&self, stream: u64, lane: &mut GvLane) -> u32 {
         let Some(id) = StreamId::new(stream) else {
             return INVALID;

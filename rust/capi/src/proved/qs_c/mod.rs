@@ -493,21 +493,6 @@ pub fn gvp_next_outstanding(
     status
 }
 
-pub fn gvp_next_newly_acked(
-    alloc: Global,
-    end: &mut Handle,
-    payload: &[u8],
-    from: u64,
-    number: &mut u64,
-) -> u32 {
-    let Some(thing) = end.take(alloc) else {
-        return INVALID;
-    };
-    let status = thing.next_newly_acked(payload, from, number);
-    end.put(thing);
-    status
-}
-
 pub fn gvp_lane_report(
     alloc: Global,
     end: &mut Handle,
