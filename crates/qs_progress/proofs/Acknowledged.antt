@@ -22,7 +22,7 @@ use Rattle.qs_machine.proofs.EachHalf.{SendEdit, send_edited, sends_kept}
 use Rattle.qs_runs.specs.Worlds.{end_of}
 use Rattle.qs_runs.proofs.Stays.{each_side}
 use Rattle.qs_progress.specs.Within.{IsKept, WasPut, IsWithin, AllWithin}
-use Rattle.qs_progress.specs.Outstanding.{IsReached}
+use Rattle.qs_progress.specs.Outstanding.{IsWhollyAcked}
 use Rattle.qs_progress.specs.Acknowledged.{IsPresent, IsOther, GoesByValue, AcknowledgedGoesByValue, AcksTellPresent, IsNamedBy, OnlyAcksTell}
 use Rattle.qs_progress.proofs.Items.{grown_call, items_acks}
 use Rattle.qs_progress.proofs.Within.{items_are_within, all_within_call, from_call, within_call, present_within, now_within, kept_piece, put_named, all_there}
@@ -38,7 +38,7 @@ KeepsAcked l m = l.reset_acked ≡ true → m.reset_acked ≡ true
 keeps_acked : (x : SendEdit) (l : SendLane) → KeepsAcked l (send_edited x l)
 keeps_acked x l is = grind (arith, nat_tests)
 
-reached_call : (old : End) (call : Call) (answer : CallAnswer call) (new : End) → EndStep old call answer new → (i : Item) → IsReached old (Told i) → IsReached new (Told i)
+reached_call : (old : End) (call : Call) (answer : CallAnswer call) (new : End) → EndStep old call answer new → (i : Item) → IsWhollyAcked old (Told i) → IsWhollyAcked new (Told i)
 reached_call old call answer new step (ResetStream n code size) (l, at, is) =
     let (k, there, keeps) = (sends_kept KeepsAcked (λ l is. is) (λ l m k x y is. y (x is)) keeps_acked old call answer new step).1 n l at in
     (k, there, keeps is)
@@ -98,13 +98,13 @@ acknowledged_goes_by_value a b h v w x run step s =
 
 -- What an ACK acknowledges
 
-told_acks : (ps : List AckedPiece) (e : End) (i : Item) → HasHome e.sends (Told i) → (p : AckedPiece) → Among p ps → p.piece ≡ Told i → IsReached (acks ps e) (Told i)
+told_acks : (ps : List AckedPiece) (e : End) (i : Item) → HasHome e.sends (Told i) → (p : AckedPiece) → Among p ps → p.piece ≡ Told i → IsWhollyAcked (acks ps e) (Told i)
 unfolding acks
 told_acks [] e i home p among is = absurd among
 told_acks (a ∷ ps) e i home p (inl same) is =
     let told : a.piece ≡ Told i = ap (λ (q : AckedPiece). q.piece) (sym same) ∙ is in
-    let now : IsReached (first_acked a e) a.piece = reached_now a.piece (without_piece a.late a.number e) (subst (HasHome e.sends) (sym told) home) in
-    reached_stays (first_acked a e) (acks ps (first_acked a e)) (in_acks ps (first_acked a e)) (items_acks ps (first_acked a e)) (Told i) (subst (IsReached (first_acked a e)) told now)
+    let now : IsWhollyAcked (first_acked a e) a.piece = reached_now a.piece (without_piece a.late a.number e) (subst (HasHome e.sends) (sym told) home) in
+    reached_stays (first_acked a e) (acks ps (first_acked a e)) (in_acks ps (first_acked a e)) (items_acks ps (first_acked a e)) (Told i) (subst (IsWhollyAcked (first_acked a e)) told now)
 told_acks (a ∷ ps) e i home p (inr later) is =
     told_acks ps (first_acked a e) i (home_stays {R = AcksStay} e.sends (first_acked a e).sends (in_piece a.piece (without_piece a.late a.number e)) (Told i) home) p later is
 

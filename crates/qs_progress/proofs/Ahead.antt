@@ -20,7 +20,7 @@ use Rattle.qs_machine.proofs.AcksAgain.{among_any}
 use Rattle.qs_machine.proofs.TablesAfter.{KeptIn, kept_same}
 use Rattle.qs_runs.proofs.Lists.{Among_either, Among_left, Among_right}
 use Rattle.qs_progress.specs.Score.{score}
-use Rattle.qs_progress.specs.Outstanding.{IsIn, IsReached}
+use Rattle.qs_progress.specs.Outstanding.{IsIn, IsWhollyAcked}
 use Rattle.qs_progress.proofs.Items.{ItemsGrow, items_piece}
 use Rattle.qs_progress.proofs.Halves.{is_broken, SentGrows, GotGrows, got_same}
 use Rattle.qs_progress.proofs.Score.{Goes, score_grows}
@@ -78,10 +78,10 @@ alike_all : (ps : List Piece) (e : End) → SendsAlike e.sends (pieces_acked ps 
 alike_all [] e = slots_same e.sends
 alike_all (p ∷ ps) e = slots_twice e.sends (piece_acked p e).sends (pieces_acked ps (piece_acked p e)).sends (alike_piece p e) (alike_all ps (piece_acked p e))
 
-reached_all : (ps : List Piece) (e : End) → ((p : Piece) → Among p ps → HasHome e.sends p) → (p : Piece) → Among p ps → IsReached (pieces_acked ps e) p
+reached_all : (ps : List Piece) (e : End) → ((p : Piece) → Among p ps → HasHome e.sends p) → (p : Piece) → Among p ps → IsWhollyAcked (pieces_acked ps e) p
 reached_all [] e homes p none = absurd none
 reached_all (r ∷ ps) e homes p (inl is) =
-    subst (IsReached (pieces_acked (r ∷ ps) e)) (sym is)
+    subst (IsWhollyAcked (pieces_acked (r ∷ ps) e)) (sym is)
     (reached_stays (piece_acked r e) (pieces_acked ps (piece_acked r e)) (stay_all ps (piece_acked r e)) (items_all ps (piece_acked r e)) r (reached_now r e (homes r (inl refl))))
 reached_all (r ∷ ps) e homes p (inr later) =
     reached_all ps (piece_acked r e) (λ q among. home_stays {R = AcksStay} e.sends (piece_acked r e).sends (in_piece r e) q (homes q (inr among))) p later
@@ -110,10 +110,10 @@ abbrev pub OutHomes : End → Type 0
 OutHomes e = (p : Piece) → Among p (out_of e) → HasHome e.sends p
 
 -- it is acknowledged then, and so is what was
-pub out_reached : (e : End) → OutHomes e → (k : ℕ) (p : Piece) → IsIn e.outstanding k p → IsReached (ahead e) p
-out_reached e homes k p here = subst (λ x. IsReached x p) (all_leave (out_of e) e) (reached_all (out_of e) e homes p (in_out e k p here))
+pub out_reached : (e : End) → OutHomes e → (k : ℕ) (p : Piece) → IsIn e.outstanding k p → IsWhollyAcked (ahead e) p
+out_reached e homes k p here = subst (λ x. IsWhollyAcked x p) (all_leave (out_of e) e) (reached_all (out_of e) e homes p (in_out e k p here))
 
-still_reached : (e : End) (p : Piece) → IsReached e p → IsReached (ahead e) p
+still_reached : (e : End) (p : Piece) → IsWhollyAcked e p → IsWhollyAcked (ahead e) p
 still_reached e p is = reached_stays e (ahead e) (stay_all (out_of e) e) (items_all (out_of e) e) p is
 
 holds_stay : (e f : End) → StayIn e.sends f.sends → ItemsGrow e.acked f.acked → Under e f
@@ -125,7 +125,7 @@ holds_stay e f stay grow (Telling i) is = grow i is
 broken_same : (l m : SendLane) → Alike l m → is_broken m ≡ is_broken l
 broken_same l m a = λ i. is_some (a.stopped i) || is_some (a.was_reset i)
 
-module _ (e f : End) (g : Goes e f) (stay : StayIn e.sends f.sends) (homes : OutHomes f) (out : (k : ℕ) (p : Piece) → IsIn e.outstanding k p → IsIn f.outstanding k p ⊎ IsReached f p) where
+module _ (e f : End) (g : Goes e f) (stay : StayIn e.sends f.sends) (homes : OutHomes f) (out : (k : ℕ) (p : Piece) → IsIn e.outstanding k p → IsIn f.outstanding k p ⊎ IsWhollyAcked f p) where
   under_ahead : Under (ahead e) (ahead f)
   under_ahead =
       under_all (out_of e) e (ahead f)

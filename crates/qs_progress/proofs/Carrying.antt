@@ -20,7 +20,7 @@ use Rattle.qs_machine.specs.Seen.{Seen}
 use Rattle.qs_machine.specs.Lawful.{Fills, frame_put}
 use Rattle.qs_progress.specs.Score.{is_done, one_if, score}
 use Rattle.qs_progress.specs.Within.{IsWithin}
-use Rattle.qs_progress.specs.Outstanding.{IsIn, IsReached}
+use Rattle.qs_progress.specs.Outstanding.{IsIn, IsWhollyAcked}
 use Rattle.qs_progress.proofs.Outstanding.{StayIn}
 use Rattle.qs_progress.proofs.Score.{Goes}
 use Rattle.qs_progress.proofs.Sums.{one_grows}
@@ -34,7 +34,7 @@ use Rattle.qs_progress.proofs.Ahead.{out_of, out_in, out_reached, ahead, alike_a
 
 -- What raises the count
 
-module _ (e f : End) (g : Goes e f) (stay : StayIn e.sends f.sends) (homes : OutHomes f) (out : (k : ℕ) (p : Piece) → IsIn e.outstanding k p → IsIn f.outstanding k p ⊎ IsReached f p) where
+module _ (e f : End) (g : Goes e f) (stay : StayIn e.sends f.sends) (homes : OutHomes f) (out : (k : ℕ) (p : Piece) → IsIn e.outstanding k p → IsIn f.outstanding k p ⊎ IsWhollyAcked f p) where
   -- what goes out raises it
   pub ahead_puts : (k : ℕ) (p : Piece) → IsIn f.outstanding k p → IsUndone (ahead e) p → score (ahead e) < score (ahead f)
   ahead_puts k p here undone =
@@ -68,7 +68,7 @@ module _ (old : End) (ready : IsReady old) where
   covered_is : (j i : Item) → Covers j i → IsWithin old j → IsCurrent old i → j ≡ i
   covered_is j i le within now = grind (arith, nat_tests)
 
-  reached_of : (i : Item) → is_done old.acked i ≡ true → IsReached old (Told i)
+  reached_of : (i : Item) → is_done old.acked i ≡ true → IsWhollyAcked old (Told i)
   reached_of i is = grind (arith, nat_tests)
 
   within_of : (k : ℕ) (j : Item) → IsIn old.outstanding k (Told j) → IsWithin old j
@@ -160,7 +160,7 @@ module _ (old : End) (ready : IsReady old) where
   due_falls (f ∷ fs) e last (may, rest) due = due_put f e (due_falls fs (frame_put f e) last rest due)
 
   module _ (fs : List Seen) (last f : End) (filled : Fills old old fs last) (some : fs ≢ []) (is : f ≡ settle (record last { next = old.next + 1 }))
-      (g : Goes old f) (stay : StayIn old.sends f.sends) (homes : OutHomes f) (out : (k : ℕ) (p : Piece) → IsIn old.outstanding k p → IsIn f.outstanding k p ⊎ IsReached f p) where
+      (g : Goes old f) (stay : StayIn old.sends f.sends) (homes : OutHomes f) (out : (k : ℕ) (p : Piece) → IsIn old.outstanding k p → IsIn f.outstanding k p ⊎ IsWhollyAcked f p) where
     due_is : f.ack_due ≡ last.ack_due
     due_is = ap (λ (x : End). x.ack_due) is
 

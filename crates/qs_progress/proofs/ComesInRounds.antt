@@ -20,7 +20,7 @@ use Rattle.qs_progress.specs.Score.{score}
 use Rattle.qs_progress.specs.Laps.{Moment, IsCalm, Trail, Sometime}
 use Rattle.qs_progress.specs.Outstanding.{IsIn}
 use Rattle.qs_progress.specs.Comes.{BothRest, BothOpen, IsReached, Course, steps_in, stretches_in, RestComesInRounds, AllComesInRounds}
-use Rattle.qs_progress.specs.Rounds.{IsRead, Turn, Round}
+use Rattle.qs_progress.specs.Rounds.{IsRead, TakesTurn, Round}
 use Rattle.qs_progress.proofs.Bound.{is_below}
 use Rattle.qs_progress.proofs.Trails.{eased, joined, last_of}
 use Rattle.qs_progress.proofs.Passing.{Owes, IsClear}
@@ -75,7 +75,7 @@ Led old new = (ms : List Moment) × Trail (λ call. ⊤) old ms new
 led_on : (old mid new : Moment) → Led old mid → Led mid new → Led old new
 led_on old mid new (ms, first) (ns, second) = (ms ++ ns, joined (λ call. ⊤) ms ns old mid new first second)
 
-pub turn_leads : (s : Side) (old new : Moment) → Turn s old new → Led old new
+pub turn_leads : (s : Side) (old new : Moment) → TakesTurn s old new → Led old new
 turn_leads s old new (mid, (n, lost), (k, sent)) =
     let (ms, calm) = sends_trail s k mid new sent in
     led_on old mid new (loses_trail s n old mid lost) (ms, eased IsCalm (λ call. ⊤) (λ call calm. tt) ms mid new calm)
@@ -145,7 +145,7 @@ module _ (a b : Settings) where
     b_owed : Owes lost_b.ends.b.next first.sent_b.ends.b.next mid.ends.b mid.ends.a
     b_owed = owes_as _ _ first.sent_b.ends.b mid.ends.b first.sent_b.ends.a mid.ends.a (lasts B).0 (lasts A).1 (lasts A).2 b_sends.1
 
-    module _ (sent : Moment) (turn_a : Turn A mid sent) where
+    module _ (sent : Moment) (turn_a : TakesTurn A mid sent) where
       abbrev again : Moment
       again = turn_a.0
 
@@ -200,26 +200,26 @@ module _ (a b : Settings) where
             seconds = turn_again.0;
             first = to_mid;
             second = turn_again.1;
-            landed_first = landed_first s;
-            landed = landed s;
-            spent = spent s;
-            read = let (m, among, least) = first.read s in (m, is_there m among, least);
+            none_out_first = none_out_first s;
+            none_out = none_out s;
+            none_to_send = none_to_send s;
+            none_to_read = let (m, among, least) = first.none_to_read s in (m, is_there m among, least);
             unclosed = unclosed;
             even_first = even_first;
             even = even;
           }
         where
-          landed_first : (s : Side) (k : ℕ) (p : Piece) → k < (end_of lost_b.ends s).next → IsIn (end_of mid.ends s).outstanding k p → ⊥
-          landed_first A k p lt here = a_clear_mid k p here
-          landed_first B k p lt here = (let (low, high) = b_owed.from k p here in omega (arith, lt, low))
+          none_out_first : (s : Side) (k : ℕ) (p : Piece) → k < (end_of lost_b.ends s).next → IsIn (end_of mid.ends s).outstanding k p → ⊥
+          none_out_first A k p lt here = a_clear_mid k p here
+          none_out_first B k p lt here = (let (low, high) = b_owed.from k p here in omega (arith, lt, low))
 
-          landed : (s : Side) (k : ℕ) (p : Piece) → k < (end_of mid.ends s).next → IsIn (end_of sent.ends s).outstanding k p → ⊥
-          landed A k p lt here = (let (low, high) = a_more.from k p here in let is = ap (λ (e : End). e.next) (same A) in omega (arith, lt, low, is))
-          landed B k p lt here = b_clear k p here
+          none_out : (s : Side) (k : ℕ) (p : Piece) → k < (end_of mid.ends s).next → IsIn (end_of sent.ends s).outstanding k p → ⊥
+          none_out A k p lt here = (let (low, high) = a_more.from k p here in let is = ap (λ (e : End). e.next) (same A) in omega (arith, lt, low, is))
+          none_out B k p lt here = b_clear k p here
 
-          spent : (s : Side) → Sometime (λ w. HasMore (end_of w s) → ⊥) (lost_b ∷ turn.0 ++ first.moments)
-          spent A = (lost_b, inl refl, λ more. sends_all A first.turn_a.2.0 lost_a first.sent_a first.turn_a.2.1 (inr (subst HasMore b_lost.there more)))
-          spent B = (first.sent_b, is_there first.sent_b (inl refl), λ more. sends_all B first.turn_b.2.0 lost_b first.sent_b first.turn_b.2.1 (inr more))
+          none_to_send : (s : Side) → Sometime (λ w. HasMore (end_of w s) → ⊥) (lost_b ∷ turn.0 ++ first.moments)
+          none_to_send A = (lost_b, inl refl, λ more. sends_all A first.turn_a.2.0 lost_a first.sent_a first.turn_a.2.1 (inr (subst HasMore b_lost.there more)))
+          none_to_send B = (first.sent_b, is_there first.sent_b (inl refl), λ more. sends_all B first.turn_b.2.0 lost_b first.sent_b first.turn_b.2.1 (inr more))
 
       pub turns_raise : BothOpen mid.ends → (BothRest mid.ends → ⊥) → both first.sent_a.ends < both sent.ends
       turns_raise unclosed begins = (let grew = legs_raise a b lost_b mid again sent grows (legs unclosed) begins in let up = to_lost_b.1 in omega (arith, grew, up))

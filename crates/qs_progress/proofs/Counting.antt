@@ -28,8 +28,8 @@ use Rattle.qs_runs.proofs.Histories.{two_sides}
 use Rattle.qs_runs.proofs.Runs.{run_keeps}
 use Rattle.qs_progress.specs.Score.{score, one_if}
 use Rattle.qs_progress.specs.Laps.{Moment, IsCalm}
-use Rattle.qs_progress.specs.Outstanding.{IsIn, IsReached}
-use Rattle.qs_progress.specs.Comes.{IsReached as IsThere}
+use Rattle.qs_progress.specs.Outstanding.{IsIn, IsWhollyAcked}
+use Rattle.qs_progress.specs.Comes.{IsReached}
 use Rattle.qs_progress.specs.Rounds.{Happens}
 use Rattle.qs_progress.proofs.Sums.{le_same}
 use Rattle.qs_progress.proofs.Score.{Goes, goes_call, peer_stays}
@@ -54,13 +54,13 @@ abbrev pub due : Side → Moment → ℕ
 due s m = one_if (end_of m.ends s).ack_due
 
 module _ (a b : Settings) where
-  out_homes : (m : Moment) → IsThere a b m → (s : Side) → OutHomes (end_of m.ends s)
+  out_homes : (m : Moment) → IsReached a b m → (s : Side) → OutHomes (end_of m.ends s)
   out_homes m r s p among =
       let (k, (ps, at, here)) = out_in (end_of m.ends s) p among in
       homes_of (end_of m.ends s) ((run_keeps a b m.log m.ends r.run).sent s) (items_are_within a b m.log m.ends r.run s) false p (k, ps, at, here)
 
-  module _ (x : Happening) (old new : Moment) (r : IsThere a b old) (calm : IsCalm x.call) (happens : Happens x old new) where
-    r_new : IsThere a b new
+  module _ (x : Happening) (old new : Moment) (r : IsReached a b old) (calm : IsCalm x.call) (happens : Happens x old new) where
+    r_new : IsReached a b new
     r_new = reached a b old new x r happens.0 happens.1
 
     goes : Goes (end_of old.ends x.end) (end_of new.ends x.end)
@@ -69,7 +69,7 @@ module _ (a b : Settings) where
     stays : StayIn (end_of old.ends x.end).sends (end_of new.ends x.end).sends
     stays = (sends_kept AcksStay stay_same stay_twice acks_edits (end_of old.ends x.end) x.call x.answer (end_of new.ends x.end) happens.1.step).1
 
-    out : (k : ℕ) (p : Piece) → IsIn (end_of old.ends x.end).outstanding k p → IsIn (end_of new.ends x.end).outstanding k p ⊎ IsReached (end_of new.ends x.end) p
+    out : (k : ℕ) (p : Piece) → IsIn (end_of old.ends x.end).outstanding k p → IsIn (end_of new.ends x.end).outstanding k p ⊎ IsWhollyAcked (end_of new.ends x.end) p
     out k p here = what_is_out_stays a b old.log old.ends new.ends x r.run happens.1 calm x.end k p here
 
     -- it never falls
@@ -91,7 +91,7 @@ module _ (a b : Settings) where
     would_read = ahead_reads (end_of old.ends x.end) (end_of new.ends x.end) goes stays (out_homes new r_new x.end) out
 
   -- a packet that is made adds to it, or an ACK is due no more
-  pub made_adds : (s : Side) (first delay room : ℕ) (made : Made) (text : List ℕ) (old new : Moment) → IsThere a b old
+  pub made_adds : (s : Side) (first delay room : ℕ) (made : Made) (text : List ℕ) (old new : Moment) → IsReached a b old
       → Happens (record { end = s; call = Make first delay room; answer = (Ok (Some made), text) }) old new → would s old + 1 + due s new ≤ would s new + due s old
   made_adds s first delay room made text old new r happens =
       let x : Happening = record { end = s; call = Make first delay room; answer = (Ok (Some made), text) } in
@@ -106,7 +106,7 @@ module _ (a b : Settings) where
   would_more s m = ahead_more (end_of m.ends s)
 
   -- a read of a stream with news adds to it, too
-  pub read_adds : (s : Side) (n size : ℕ) (answer : Result Read UseFault × List ℕ) (old new : Moment) → IsThere a b old → IsReadable (end_of old.ends s) n
+  pub read_adds : (s : Side) (n size : ℕ) (answer : Result Read UseFault × List ℕ) (old new : Moment) → IsReached a b old → IsReadable (end_of old.ends s) n
       → Happens (record { end = s; call = ReadUpTo n (suc size); answer = answer }) old new → would s old < would s new
   read_adds s n size answer old new r (unshut, (l, at, news)) happens =
       elim (cases_lt (would s old) (would s new)) [

@@ -57,9 +57,9 @@ reads_lap =
     record {
       moments = after ∷ [];
       calm = ((reads_end, tt, refl, reads_step), refl);
-      landed = λ s k low. absurd (omega (arith, low, none_made s));
-      spent = λ s. (after, inl refl, (rests s).quiet);
-      read = λ s. (after, inl refl, record { found = λ n is. absurd (none-some n is); least = λ n from readable. absurd (none_readable s n readable) });
+      none_out = λ s k low. absurd (omega (arith, low, none_made s));
+      none_to_send = λ s. (after, inl refl, (rests s).quiet);
+      none_to_read = λ s. (after, inl refl, record { found = λ n is. absurd (none-some n is); least = λ n from readable. absurd (none_readable s n readable) });
     }
 
 -- No lap
@@ -96,7 +96,7 @@ no_lap call none s answer old new follows lap = none (only_one (record { end = s
 module _ (x : Happening) (old new : Moment) (s : Side) (follows : Follows x old new) (lap : Lap old new) where
   no_more : HasMore (end_of new.ends s) → ⊥
   no_more more =
-      let (m, among, quiet) = lap.spent s in
+      let (m, among, quiet) = lap.none_to_send s in
       let one = (only_one x lap.moments old new follows lap.calm).1 in
       quiet (subst (λ (k : Moment). HasMore (end_of k.ends s)) (sym (at m (subst (Among m) one among))) more)
     where
@@ -105,7 +105,7 @@ module _ (x : Happening) (old new : Moment) (s : Side) (follows : Follows x old 
 
   none_unread : (n : ℕ) → IsReadable (end_of new.ends s) n → ⊥
   none_unread n more =
-      let (m, among, least) = lap.read s in
+      let (m, among, least) = lap.none_to_read s in
       let one = (only_one x lap.moments old new follows lap.calm).1 in
       let (k, is, low) = least.least n (omega arith) (subst (λ (k : Moment). IsReadable (end_of k.ends s) n) (sym (at m (subst (Among m) one among))) more) in
       none-some k is
@@ -114,11 +114,11 @@ module _ (x : Happening) (old new : Moment) (s : Side) (follows : Follows x old 
       at m h = grind (arith, nat_tests)
 
 nothing_happens : (m : Moment) → Lap m m → ⊥
-nothing_happens m lap = go lap.moments lap.calm (lap.spent A)
+nothing_happens m lap = go lap.moments lap.calm (lap.none_to_send A)
   where
     go : (ms : List Moment) → Trail IsCalm m ms m → Sometime (λ w. HasMore (end_of w A) → ⊥) ms → ⊥
     go [] trail (k, among, quiet) = among
-    go (k ∷ ms) trail spent = omega (arith, logged IsCalm (k ∷ ms) m m trail)
+    go (k ∷ ms) trail none_to_send = omega (arith, logged IsCalm (k ∷ ms) m m trail)
 
 no_laps : IsNoLap
 no_laps =
@@ -134,7 +134,7 @@ no_laps =
       raises = λ p. no_lap (RaiseLimits p) (λ calm. calm);
       sets = λ x. no_lap (Set x) (λ calm. calm);
       closes = λ c. no_lap (NoteClosed c) (λ calm. calm);
-      outstanding = λ old new s k low there lap. true≢false (sym there ∙ lap.landed s k low);
+      outstanding = λ old new s k low there lap. true≢false (sym there ∙ lap.none_out s k low);
       more = λ x old new s follows more lap. no_more x old new s follows lap more;
       unread = λ x old new s n follows more lap. none_unread x old new s follows lap n more;
       nothing = nothing_happens;

@@ -19,7 +19,7 @@ use Rattle.qs_runs.specs.Logs.{Happening, other}
 use Rattle.qs_runs.specs.Worlds.{end_of}
 use Rattle.qs_rest.proofs.Exclusions.{exclusions as rest_exclusions}
 use Rattle.qs_progress.specs.Laps.{Moment, IsCalm, Trail}
-use Rattle.qs_progress.specs.Rounds.{Happens, Passes, Turn, IsRead, Round}
+use Rattle.qs_progress.specs.Rounds.{Happens, Delivers, TakesTurn, IsRead, Round}
 use Rattle.qs_progress.specs.ExclusionsLaps.{before, after, reads_end}
 use Rattle.qs_progress.specs.ExclusionsRounds.{makes, RoundExclusions}
 use Rattle.qs_progress.proofs.ExclusionsLaps.{rests, none_readable, reads_step, first_of}
@@ -31,7 +31,7 @@ none_sendable A sendable = rest_exclusions.others.untold_end.0 sendable
 none_sendable B (inl due) = false≢true due
 none_sendable B (inr more) = (rests B).quiet more
 
-turn : (s : Side) → Turn s before before
+turn : (s : Side) → TakesTurn s before before
 turn A = (before, (0, (refl, λ k from. ap is_some (fmap.get-empty nat_cmp k))), (0, (refl, none_sendable A)))
 turn B = (before, (0, (refl, λ k from. ap is_some (fmap.get-empty nat_cmp k))), (0, (refl, none_sendable B)))
 
@@ -40,10 +40,10 @@ length_of : (x : Happening) (old new : Moment) → Happens x old new → length 
 length_of x old new (logged, step) = (let is : length new.log ≡ length (x ∷ old.log) = ap length logged in omega (arith, is))
 
 -- one thing happened: it is calm, and no end changed
-one_passes : (s : Side) (x : Happening) (old new : Moment) → Happens x old new → Passes s old new → IsCalm x.call × (new.ends ≡ old.ends)
+one_passes : (s : Side) (x : Happening) (old new : Moment) → Happens x old new → Delivers s old new → IsCalm x.call × (new.ends ≡ old.ends)
 one_passes s x old new happens h = grind (arith, nat_tests, length_of, first_of)
 
-never_comes : (s : Side) (first delay room : ℕ) (made : Made) (text : List ℕ) (old new : Moment) → Happens (makes s first delay room made text) old new → Passes s old new → ⊥
+never_comes : (s : Side) (first delay room : ℕ) (made : Made) (text : List ℕ) (old new : Moment) → Happens (makes s first delay room made text) old new → Delivers s old new → ⊥
 never_comes s first delay room made text old new happens passes =
     let (calm, same) = one_passes s _ old new happens passes in
     let it : IsMade (end_of old.ends s) first delay room made text (end_of new.ends s) = is_made (make_refusal (end_of old.ends s)) _ _ first delay room made text happens.1.step in
@@ -60,7 +60,7 @@ abbrev took : Happening → Bool
 took x = takes x.call x.answer
 
 not_whole : (s : Side) (first delay room : ℕ) (made : Made) (text bytes : List ℕ) (old mid new : Moment) → Happens (makes s first delay room made text) old mid
-    → Happens (record { end = other s; call = Receive made.number bytes; answer = Ok NoMemory }) mid new → Passes s old new → ⊥
+    → Happens (record { end = other s; call = Receive made.number bytes; answer = Ok NoMemory }) mid new → Delivers s old new → ⊥
 not_whole s first delay room made text bytes old mid new make receive (inl (call, answer, bytes2, mid2, calm, make2, receive2)) =
     let y : Happening = record { end = other s; call = Receive (end_of old.ends s).next bytes2; answer = Ok Done } in
     true≢false (ap took (ap (first_of y) (sym receive2.0 ∙ receive.0)))
@@ -79,7 +79,7 @@ abbrev number_of : Happening → ℕ
 number_of x = number_in x.call
 
 its_number : (s : Side) (first delay room k : ℕ) (made : Made) (text bytes : List ℕ) (old mid new : Moment) → Happens (makes s first delay room made text) old mid
-    → Happens (record { end = other s; call = Receive k bytes; answer = Ok Done }) mid new → Passes s old new → k ≡ made.number
+    → Happens (record { end = other s; call = Receive k bytes; answer = Ok Done }) mid new → Delivers s old new → k ≡ made.number
 its_number s first delay room k made text bytes old mid new make receive (inl (call, answer, bytes2, mid2, calm, make2, receive2)) =
     let e = end_of old.ends s in
     let y : Happening = record { end = other s; call = Receive e.next bytes2; answer = Ok Done } in
@@ -93,7 +93,7 @@ its_number s first delay room k made text bytes old mid new make receive (inr (x
 
 no_unread : (old new : Moment) (r : Round old new) (s : Side) (n : ℕ) → r.moments ≡ [] → IsReadable (end_of new.ends s) n → ⊥
 no_unread old new r s n none more =
-    let (m, among, least) = r.read s in
+    let (m, among, least) = r.none_to_read s in
     let at : m ≡ r.sent_b = elim (subst (λ ms. Among m (r.sent_b ∷ ms)) none among) [ inl is ↦ is | inr nowhere ↦ absurd nowhere ] in
     let is : new ≡ r.sent_b = subst (λ ms. Trail IsRead r.sent_b ms new) none r.reads in
     let (k, found, low) = least.least n (omega arith) (subst (λ (x : Moment). IsReadable (end_of x.ends s) n) (is ∙ sym at) more) in
@@ -109,7 +109,7 @@ round_exclusions =
         turn_a = turn A;
         turn_b = turn B;
         reads = ((reads_end, tt, refl, reads_step), refl);
-        read = λ s. (after, inr (inl refl), record { found = λ n is. absurd (none-some n is); least = λ n from readable. absurd (none_readable s n readable) });
+        none_to_read = λ s. (after, inr (inl refl), record { found = λ n is. absurd (none-some n is); least = λ n from readable. absurd (none_readable s n readable) });
       };
       logged = λ x m happens. (let one = length_of x m m happens in omega (arith, one));
       losses = λ s n old new lost. (loses s n old new lost).there;

@@ -21,7 +21,7 @@ use Rattle.qs_machine.specs.Acked.{greatest, greatest_of, or_zero}
 use Rattle.qs_machine.specs.FrameStep.{piece_acked, item_acked}
 use Rattle.qs_machine.proofs.TableLaws.{slots_updated}
 use Rattle.qs_progress.specs.Score.{reaches, is_done}
-use Rattle.qs_progress.specs.Outstanding.{IsReached}
+use Rattle.qs_progress.specs.Outstanding.{IsWhollyAcked}
 
 -- an offset of a stream, its end, its reset, or an item
 pub data Fact : Type 0 where
@@ -164,7 +164,7 @@ fact_step (Told j) e (Ending k) is = inl is
 fact_step (Told j) e (Resetting k) is = inl is
 
 -- what a piece tells holds where it is acknowledged
-pub given : (p : Piece) (e : End) (x : Fact) → Gives p x → IsReached e p → Holds e x
+pub given : (p : Piece) (e : End) (x : Fact) → Gives p x → IsWhollyAcked e p → Holds e x
 given (Data n c) e (Offset m q) (same, low, high) (l, at, all, end) = (l, ap (lookup e.sends) same ∙ at, all q low high)
 given (Data n c) e (Ending m) (same, fin) (l, at, all, end) = (l, ap (lookup e.sends) same ∙ at, end fin)
 given (Told (ResetStream n code size)) e (Resetting m) same (l, at, acked) = (l, ap (lookup e.sends) same ∙ at, acked)
@@ -191,7 +191,7 @@ facts_step (p ∷ ps) e x is =
 abbrev pub Under : End → End → Type 0
 Under e f = (x : Fact) → Holds e x → Holds f x
 
-pub under_all : (ps : List Piece) (e f : End) → Under e f → ((p : Piece) → Among p ps → IsReached f p) → Under (pieces_acked ps e) f
+pub under_all : (ps : List Piece) (e f : End) → Under e f → ((p : Piece) → Among p ps → IsWhollyAcked f p) → Under (pieces_acked ps e) f
 under_all ps e f under reached x is =
     elim (facts_step ps e x is) [
       | inl was ↦ under x was

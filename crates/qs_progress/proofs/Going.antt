@@ -26,7 +26,7 @@ use Rattle.qs_runs.proofs.Histories.{two_sides}
 use Rattle.qs_progress.specs.Score.{reaches}
 use Rattle.qs_progress.specs.Within.{WasPut, IsWithin, AllWithin}
 use Rattle.qs_progress.specs.Acknowledged.{IsPresent}
-use Rattle.qs_progress.specs.Outstanding.{IsIn, IsReached}
+use Rattle.qs_progress.specs.Outstanding.{IsIn, IsWhollyAcked}
 use Rattle.qs_progress.specs.Going.{WhatGoesOutIsNew}
 use Rattle.qs_progress.proofs.Items.{ItemsGrow, items_put}
 use Rattle.qs_progress.proofs.Within.{items_are_within, current_present}
@@ -40,7 +40,7 @@ reached_is : (o : Option ℕ) (m : ℕ) → reaches o m ≡ true → ((k : ℕ) 
 reached_is o m is few = grind (arith, nat_tests)
 
 -- also at an end at which more was acknowledged, but nothing above the present values
-pub done_present : (e now : End) → ((i : Item) → WasPut now i → IsWithin e i) → (i : Item) → IsPresent e i → IsReached now (Told i) → IsAcked now i
+pub done_present : (e now : End) → ((i : Item) → WasPut now i → IsWithin e i) → (i : Item) → IsPresent e i → IsWhollyAcked now (Told i) → IsAcked now i
 done_present e now within (MaxData m) same is = reached_is now.acked.max_data m is (λ k at. let le = within (MaxData k) (inr at) in omega (arith, le, same))
 done_present e now within (MaxStreamData n m) (l, there, same) is =
     reached_is (fmap.get now.acked.max_stream_data n) m is (λ k at.
@@ -60,11 +60,11 @@ done_present e now within (StreamDataBlocked n m) (l, there, same) is =
 done_present e now within (StreamsBlocked Bidi m) same is = reached_is now.acked.bidi_blocked m is (λ k at. let le = within (StreamsBlocked Bidi k) (inr at) in omega (arith, le, same))
 done_present e now within (StreamsBlocked Uni m) same is = reached_is now.acked.uni_blocked m is (λ k at. let le = within (StreamsBlocked Uni k) (inr at) in omega (arith, le, same))
 
-pub done_acked : (e : End) → AllWithin e → (i : Item) → IsCurrent e i → IsReached e (Told i) → IsAcked e i
+pub done_acked : (e : End) → AllWithin e → (i : Item) → IsCurrent e i → IsWhollyAcked e (Told i) → IsAcked e i
 done_acked e within i now is = done_present e e within i (current_present e i now) is
 
 -- a STREAM frame that may go has an offset or an end that isn't acknowledged
-pub chunk_unreached : (e : End) (n offset : ℕ) (bytes : List ℕ) (fin : Bool) (l : SendLane) → MayCarry e n offset bytes fin l → IsReached e (Data n (chunk_of offset bytes fin)) → ⊥
+pub chunk_unreached : (e : End) (n offset : ℕ) (bytes : List ℕ) (fin : Bool) (l : SendLane) → MayCarry e n offset bytes fin l → IsWhollyAcked e (Data n (chunk_of offset bytes fin)) → ⊥
 chunk_unreached e n offset bytes fin l may (m, there, all, end) =
     let same : m ≡ l = same_Some m l (sym there ∙ may.lane) in
     elim may.something [
@@ -126,7 +126,7 @@ module _ (k : ℕ) (p : Piece) where
 
   module _ (old : End) (within : AllWithin old) where
     abbrev Fresh : Type 0
-    Fresh = IsReached old p → ⊥
+    Fresh = IsWhollyAcked old p → ⊥
 
     put_back : (f : Seen) (e : End) → MayPut old e f → StayIn old.sends e.sends → ItemsGrow old.acked e.acked → IsIn (frame_put f e).outstanding k p → IsIn e.outstanding k p ⊎ Fresh
     unfolding frame_put
@@ -134,17 +134,17 @@ module _ (k : ℕ) (p : Piece) where
     put_back (Stream n offset bytes fin) e (l, may) kept grow here =
         elim (noted_back (Data n (chunk_of offset bytes fin)) (on_send n (λ m. sent_lane m (chunk_of offset bytes fin)) e) here) [
           | inl before ↦ inl before
-          | inr is ↦ inr (λ reached. chunk_unreached e n offset bytes fin l may (subst (IsReached e) is (reached_stays old e kept grow p reached)))
+          | inr is ↦ inr (λ reached. chunk_unreached e n offset bytes fin l may (subst (IsWhollyAcked e) is (reached_stays old e kept grow p reached)))
         ]
     put_back (Control (StreamDataBlocked n m)) e may kept grow here =
         elim (noted_back (Told (StreamDataBlocked n m)) (on_send n blocked_lane e) here) [
           | inl before ↦ inl before
-          | inr is ↦ inr (λ reached. may.0.1 (inr (done_acked old within (StreamDataBlocked n m) may.0.0 (subst (IsReached old) is reached))))
+          | inr is ↦ inr (λ reached. may.0.1 (inr (done_acked old within (StreamDataBlocked n m) may.0.0 (subst (IsWhollyAcked old) is reached))))
         ]
     put_back (Control i) e may kept grow here =
         elim (noted_back (Told i) e here) [
           | inl before ↦ inl before
-          | inr is ↦ inr (λ reached. may.0.1 (inr (done_acked old within i may.0.0 (subst (IsReached old) is reached))))
+          | inr is ↦ inr (λ reached. may.0.1 (inr (done_acked old within i may.0.0 (subst (IsWhollyAcked old) is reached))))
         ]
     put_back (Close code) e may kept grow here = absurd may
     put_back (Plain asks) e may kept grow here = absurd may
@@ -171,6 +171,6 @@ module _ (k : ℕ) (p : Piece) where
 
 pub what_goes_out_is_new : WhatGoesOutIsNew
 what_goes_out_is_new a b h v w x run step calm s k p =
-    two_sides (λ t. IsIn (end_of w t).outstanding k p → IsIn (end_of v t).outstanding k p ⊎ (IsReached (end_of v t) p → ⊥)) x.end
+    two_sides (λ t. IsIn (end_of w t).outstanding k p → IsIn (end_of v t).outstanding k p ⊎ (IsWhollyAcked (end_of v t) p → ⊥)) x.end
     (calm_call (end_of v x.end) _ (going k p (end_of v x.end) (items_are_within a b h v run x.end)) x.call x.answer (end_of w x.end) calm step.step)
     (λ here. inl (subst (λ (e : End). IsIn e.outstanding k p) step.still here)) s

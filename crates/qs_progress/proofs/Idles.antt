@@ -99,4 +99,4 @@ rest_idles e full rest = (
     none : (k : ℕ) (o : Option (List Piece)) → fmap.get e.outstanding k ≡ o → is_some o ≡ false
     none k None is = refl
     none k (Some []) is = absurd (full k is)
-    none k (Some (p ∷ ps)) is = absurd (rest.landed p (k, p ∷ ps, is, inl refl))
+    none k (Some (p ∷ ps)) is = absurd (rest.none_out p (k, p ∷ ps, is, inl refl))

@@ -27,7 +27,7 @@ use Rattle.qs_progress.specs.Score.{score, one_if}
 use Rattle.qs_progress.specs.Bound.{most}
 use Rattle.qs_progress.specs.Laps.{Moment, IsCalm, Trail, Sometime}
 use Rattle.qs_progress.specs.Comes.{BothRest, BothOpen, IsReached}
-use Rattle.qs_progress.specs.Rounds.{Happens, Loses, Passes, Sends, Turn, IsRead, Round}
+use Rattle.qs_progress.specs.Rounds.{Happens, Loses, Delivers, Sends, TakesTurn, IsRead, Round}
 use Rattle.qs_progress.proofs.Score.{what_is_done_stays}
 use Rattle.qs_progress.proofs.Bound.{ahead_below}
 use Rattle.qs_progress.proofs.Trails.{reached, joined, last_of, trail_open}
@@ -60,7 +60,7 @@ Losing s (suc n) old new = (k : ℕ) × (mid : Moment) × Losing s n old mid × 
 
 abbrev pub Sending : Side → ℕ → Moment → Moment → Type 0
 Sending s zero old new = new ≡ old
-Sending s (suc n) old new = (mid : Moment) × Sending s n old mid × Passes s mid new
+Sending s (suc n) old new = (mid : Moment) × Sending s n old mid × Delivers s mid new
 
 lost_all : (s : Side) (n : ℕ) (old mid new : Moment) → Losing s n old mid → (j : ℕ) × Loses s j mid new → (j : ℕ) × Loses s j old new
 lost_all s zero old mid new is rest = subst (λ m. (j : ℕ) × Loses s j m new) is rest
@@ -97,7 +97,7 @@ module _ (a b : Settings) where
   fresh m (inl u) = true
   fresh m (inr past) = false
 
-  then_clear : (m : Moment) (before : Before a b m) → fresh m before ≡ false → (sent : Moment) → Turn A m sent → IsClear sent.ends.b
+  then_clear : (m : Moment) (before : Before a b m) → fresh m before ≡ false → (sent : Moment) → TakesTurn A m sent → IsClear sent.ends.b
   then_clear m (inl u) is sent turn = absurd (true≢false is)
   then_clear m (inr (past, r, round)) is sent turn = b_clear a b past m r round sent turn
 
@@ -168,7 +168,7 @@ module _ (a b : Settings) where
       since : Since k now
       busy : BothRest since.begins.ends → ⊥
       sent_a : Moment
-      turn_a : Turn A since.begins sent_a
+      turn_a : TakesTurn A since.begins sent_a
 
     abbrev since_a_next : {k : ℕ} (x : Happening) (now new : Moment) → SinceA k now → Happens x now new → SinceA k new
     since_a_next x now new it happens = record { since = since_next x now new it.since happens; busy = it.busy; sent_a = it.sent_a; turn_a = it.turn_a }
@@ -204,7 +204,7 @@ module _ (a b : Settings) where
     pub record ReadsA (k n : ℕ) (now : Moment) : Type 0 where
       after : SinceA k now
       sent_b : Moment
-      turn_b : Turn B after.sent_a sent_b
+      turn_b : TakesTurn B after.sent_a sent_b
       moments : List Moment
       trail : Trail IsRead sent_b moments now
       count : IsAt k n 0 6 (would A now) (would B now) now
@@ -279,7 +279,7 @@ module _ (a b : Settings) where
     pub none_a : (k n : ℕ) (x : Happening) (now new : Moment) → SendsA k n now → (BothRest now.ends → ⊥) → Happens x now new → IsCalm x.call → new.ends ≡ now.ends → (Sendable now.ends.a → ⊥) → LosesB k (suc n) new
     none_a k n x now new st busy happens calm same none =
         let f = is_first st.since in
-        let turn : Turn A st.since.begins new = (st.from, st.lost, sent_all A st.sent.0 st.from now new st.sent.1 (1, (new, inr (x, calm, happens, same), (refl, subst (λ v. Sendable v.a → ⊥) (sym same) none)))) in
+        let turn : TakesTurn A st.since.begins new = (st.from, st.lost, sent_all A st.sent.0 st.from now new st.sent.1 (1, (new, inr (x, calm, happens, same), (refl, subst (λ v. Sendable v.a → ⊥) (sym same) none)))) in
         let left_same : left f new.ends.b ≡ left f now.ends.b = ap (λ (v : World). left f v.b) same in
         let floor_same : floor f new.ends.b ≡ floor f now.ends.b = ap (λ (v : World). floor f v.b) same in
         let would_same : would A new ≡ would A now = ap (λ (v : World). score (ahead v.a)) same in
@@ -338,7 +338,7 @@ module _ (a b : Settings) where
 
     pub none_b : (k n : ℕ) (x : Happening) (now new : Moment) → SendsB k n now → Happens x now new → IsCalm x.call → new.ends ≡ now.ends → (Sendable now.ends.b → ⊥) → ReadsA k (suc n) new
     none_b k n x now new st happens calm same none =
-        let turn : Turn B st.after.sent_a new = (st.from, st.lost, sent_all B st.sent.0 st.from now new st.sent.1 (1, (new, inr (x, calm, happens, same), (refl, subst (λ v. Sendable v.b → ⊥) (sym same) none)))) in
+        let turn : TakesTurn B st.after.sent_a new = (st.from, st.lost, sent_all B st.sent.0 st.from now new st.sent.1 (1, (new, inr (x, calm, happens, same), (refl, subst (λ v. Sendable v.b → ⊥) (sym same) none)))) in
         let same_a : would A new ≡ would A now = ap (λ (v : World). score (ahead v.a)) same in
         let same_b : would B new ≡ would B now = ap (λ (v : World). score (ahead v.b)) same in
         record {
@@ -390,7 +390,7 @@ module _ (a b : Settings) where
           turn_a = r.after.turn_a;
           turn_b = r.turn_b;
           reads = r.trail;
-          read = λ s. by s;
+          none_to_read = λ s. by s;
         } in
         let (ms, led) = round_leads since.begins now round in
         let open_end = trail_open (λ call. ⊤) ms since.begins now led unclosed in

@@ -17,7 +17,7 @@ use Rattle.qs_machine.specs.Due.{IsCurrent, IsAcked, IsCovered, IsDue, StreamGoe
 use Rattle.qs_machine.proofs.TableLaws.{value, total_le}
 use Rattle.qs_rest.specs.Rest.{HasMore}
 use Rattle.qs_rest.proofs.ItemParts.{acked_or_not}
-use Rattle.qs_progress.specs.Outstanding.{IsIn, IsReached}
+use Rattle.qs_progress.specs.Outstanding.{IsIn, IsWhollyAcked}
 use Rattle.qs_progress.proofs.Items.{ItemsGrow}
 use Rattle.qs_progress.proofs.Outstanding.{StayIn, reached_stays}
 use Rattle.qs_progress.proofs.Going.{done_acked}
@@ -25,7 +25,7 @@ use Rattle.qs_progress.proofs.Undone.{IsUndone, unless}
 use Rattle.qs_progress.proofs.Alike.{Alike, alike_at, alike_back}
 use Rattle.qs_progress.proofs.Steps.{Quiet, IsReady, current_undone}
 
-pub acked_reached : (e : End) (i : Item) → IsAcked e i → IsReached e (Told i)
+pub acked_reached : (e : End) (i : Item) → IsAcked e i → IsWhollyAcked e (Told i)
 acked_reached e i is = grind (arith, nat_tests)
 
 module _ (a b : End) (quiet : Quiet a b) (grow : ItemsGrow a.acked b.acked) (ready_a : IsReady a) (ready_b : IsReady b) (keeps : (k : ℕ) (p : Piece) → IsIn a.outstanding k p → IsUndone a p → IsIn b.outstanding k p) where

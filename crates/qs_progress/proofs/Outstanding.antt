@@ -40,7 +40,7 @@ use Rattle.qs_runs.proofs.Histories.{two_sides}
 use Rattle.qs_runs.proofs.Runs.{run_keeps}
 use Rattle.qs_progress.specs.Score.{reaches}
 use Rattle.qs_progress.specs.Within.{AllWithin}
-use Rattle.qs_progress.specs.Outstanding.{IsIn, IsReached, WhatIsOutStays}
+use Rattle.qs_progress.specs.Outstanding.{IsIn, IsWhollyAcked, WhatIsOutStays}
 use Rattle.qs_progress.proofs.Items.{ItemsGrow, items_acks, items_frame, items_put}
 use Rattle.qs_progress.proofs.InOrder.{InOrder, order_take, order_named, first_same}
 use Rattle.qs_progress.proofs.Within.{items_are_within}
@@ -100,7 +100,7 @@ in_frame (Control (StopSending n code)) e = in_turn e.sends (opened_by_peer n e)
 in_frame (Control (StreamDataBlocked n m)) e = in_opened n e
 in_frame f e = in_same e.sends
 
-pub reached_stays : (a b : End) → StayIn a.sends b.sends → ItemsGrow a.acked b.acked → (p : Piece) → IsReached a p → IsReached b p
+pub reached_stays : (a b : End) → StayIn a.sends b.sends → ItemsGrow a.acked b.acked → (p : Piece) → IsWhollyAcked a p → IsWhollyAcked b p
 reached_stays a b kept grow (Data n c) (l, is, all, end) = (let (m, there, r) = kept n l is in (m, there, (λ q low high. r.0 q (all q low high)), (λ fin. r.1 (end fin))))
 reached_stays a b kept grow (Told (ResetStream n code size)) (l, is, acked) = (let (m, there, r) = kept n l is in (m, there, r.2 acked))
 reached_stays a b kept grow (Told i) is = grow i is
@@ -134,7 +134,7 @@ greatest_now o m = grind (arith, nat_tests)
 greatest_of_now : (values : fmap.FinMap nat_cmp ℕ) (n m : ℕ) → reaches (fmap.get (greatest_of values n m) n) m ≡ true
 greatest_of_now values n m = ap (λ o. reaches o m) (get_new values n (max (or_zero (fmap.get values n)) m)) ∙ (grind (arith, nat_tests))
 
-pub reached_now : (p : Piece) (e : End) → HasHome e.sends p → IsReached (piece_acked p e) p
+pub reached_now : (p : Piece) (e : End) → HasHome e.sends p → IsWhollyAcked (piece_acked p e) p
 reached_now (Data n c) e home =
     let (l, is) = the_one (lookup e.sends n) home in (
       acked_lane l c,
@@ -163,7 +163,7 @@ all_homes e ranges h = all_named (λ (a : AckedPiece). HasHome e.sends a.piece) 
 
 module _ (k : ℕ) (p : Piece) where
   abbrev pub Stays : End → Type 0
-  Stays e = IsIn e.outstanding k p ⊎ IsReached e p
+  Stays e = IsIn e.outstanding k p ⊎ IsWhollyAcked e p
 
   alike : (a b : End) → b.outstanding ≡ a.outstanding → StayIn a.sends b.sends → ItemsGrow a.acked b.acked → Stays a → Stays b
   alike a b same kept grow h = grind (arith, nat_tests, reached_stays)
@@ -179,7 +179,7 @@ module _ (k : ℕ) (p : Piece) where
             let after = first_acked (acked_at false j r) e in
             let left : fmap.get after.outstanding k ≡ rest_of (Some (r ∷ rest)) = ap (fmap.get after.outstanding) same ∙ first_same false j r e ∙ ap rest_of is in
             elim (left_in after.outstanding r rest left (subst (Among p) (same_Some ps (r ∷ rest) (sym at ∙ ap (fmap.get e.outstanding) same ∙ is)) among)) [
-              | inl e1 ↦ inr (subst (IsReached after) (sym e1) (reached_now r (without_piece false j e) home))
+              | inl e1 ↦ inr (subst (IsWhollyAcked after) (sym e1) (reached_now r (without_piece false j e) home))
               | inr still ↦ inl still
             ])
         | inr ne ↦ inl (ps, first_other false j k r e ne ∙ at, among)

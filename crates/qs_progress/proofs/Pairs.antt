@@ -208,10 +208,10 @@ module _ (a b : Settings) where
       pub seconds : List Moment
       pub first : Trail IsCalm old firsts mid
       pub second : Trail IsCalm again seconds new
-      pub landed_first : (k : ℕ) (p : Piece) → k < (at old).next → IsIn (at mid).outstanding k p → ⊥
-      pub landed : (k : ℕ) (p : Piece) → k < (at mid).next → IsIn (at new).outstanding k p → ⊥
-      pub spent : Sometime (λ w. HasMore (end_of w s) → ⊥) (old ∷ firsts)
-      pub read : Sometime (λ w. IsLeast (IsReadable (end_of w s)) 0 None) (old ∷ firsts)
+      pub none_out_first : (k : ℕ) (p : Piece) → k < (at old).next → IsIn (at mid).outstanding k p → ⊥
+      pub none_out : (k : ℕ) (p : Piece) → k < (at mid).next → IsIn (at new).outstanding k p → ⊥
+      pub none_to_send : Sometime (λ w. HasMore (end_of w s) → ⊥) (old ∷ firsts)
+      pub none_to_read : Sometime (λ w. IsLeast (IsReadable (end_of w s)) 0 None) (old ∷ firsts)
       pub unclosed : BothOpen mid.ends
       pub even_first : score (at mid) ≤ score (at old)
       pub even : score (at new) ≤ score (at mid)
@@ -226,7 +226,7 @@ module _ (a b : Settings) where
           let (there, yet) = (leads rest m mid r_m trail).1.keeps even k p here undone in
           let even_again = subst (λ (e : End). score (at new) ≤ score e) (sym legs.same) legs.even in
           let (still, open_yet) = (leads legs.seconds again new legs.goes_on legs.second).1.keeps even_again k p (subst (λ (e : End). IsIn e.outstanding k p) (sym legs.same) there) (subst (λ e. IsUndone e p) (sym legs.same) yet) in
-          legs.landed k p lt still
+          legs.none_out k p lt still
 
       -- from a moment of the first trail on
       since : (m : Moment) → Among m (old ∷ legs.firsts) → IsReached a b m × Quiet (at m) (at mid) × Leads (at m) (at mid)
@@ -245,16 +245,16 @@ module _ (a b : Settings) where
       rests =
           record {
             quiet = λ more.
-                let (m, among, none) = legs.spent in
+                let (m, among, none) = legs.none_to_send in
                 let (r_m, quiet, led) = since m among in
                 none (more_back (at m) (at mid) quiet led.items (ready m r_m) (ready mid r_mid) (keeps_all m among) more);
-            landed = λ p (k, ps, there, among).
+            none_out = λ p (k, ps, there, among).
                 let ok = run_keeps a b old.log old.ends legs.begins.run in
                 let (qs, before, was) = (stays_quiet legs.firsts old mid legs.begins legs.first legs.even_first never).carried k p (ps, there, among) in
                 let below = stood_in (past s old.log).mine k p ((ok.ends s).packets.records k qs p before was) in
-                legs.landed_first k p (omega (arith, below, (ok.ends s).packets.count)) (ps, there, among);
+                legs.none_out_first k p (omega (arith, below, (ok.ends s).packets.count)) (ps, there, among);
             read_out = λ n l there.
-                let (m, among, least) = legs.read in
+                let (m, among, least) = legs.none_to_read in
                 let (r_m, quiet, led) = since m among in
                 no_news l ((every_run_keeps a b mid.log mid.ends r_mid.run s).told n l there) (unread m among least n l (ap (λ (e : End). lookup e.recvs n) (sym quiet.rest) ∙ there) (is_readable l) refl);
           }
@@ -278,10 +278,10 @@ module _ (a b : Settings) where
           seconds = second.moments;
           first = first.calm;
           second = second.calm;
-          landed_first = λ k p lt (ps, there, among). true≢false (sym (ap is_some there) ∙ first.landed s k lt);
-          landed = λ k p lt (ps, there, among). true≢false (sym (ap is_some there) ∙ second.landed s k lt);
-          spent = let (m, among, none) = first.spent s in (m, inr among, none);
-          read = let (m, among, least) = first.read s in (m, inr among, least);
+          none_out_first = λ k p lt (ps, there, among). true≢false (sym (ap is_some there) ∙ first.none_out s k lt);
+          none_out = λ k p lt (ps, there, among). true≢false (sym (ap is_some there) ∙ second.none_out s k lt);
+          none_to_send = let (m, among, none) = first.none_to_send s in (m, inr among, none);
+          none_to_read = let (m, among, least) = first.none_to_read s in (m, inr among, least);
           unclosed = trail_open IsCalm second.moments mid new second.calm open_end;
           even_first = even_first;
           even = even;

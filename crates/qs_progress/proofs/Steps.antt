@@ -43,7 +43,7 @@ use Rattle.qs_machine.specs.FrameStep.{AckedPiece}
 use Rattle.qs_machine.specs.Repeats.{WasWritten}
 use Rattle.qs_progress.specs.Score.{score}
 use Rattle.qs_progress.specs.Within.{AllWithin}
-use Rattle.qs_progress.specs.Outstanding.{IsIn, IsReached}
+use Rattle.qs_progress.specs.Outstanding.{IsIn, IsWhollyAcked}
 use Rattle.qs_progress.proofs.SetBeyond.{lookup_at}
 use Rattle.qs_progress.proofs.Halves.{got_edits}
 use Rattle.qs_progress.proofs.Score.{Goes}
@@ -246,10 +246,10 @@ module _ (old : End) (ready : IsReady old) where
 
   -- Packets
 
-  pub not_done : (i : Item) → IsDueItem old i → IsReached old (Told i) → ⊥
+  pub not_done : (i : Item) → IsDueItem old i → IsWhollyAcked old (Told i) → ⊥
   not_done i due reached = due.1 (inr (done_acked old ready.within i due.0 reached))
 
-  pub current_undone : (i : Item) → IsCurrent old i → (IsReached old (Told i) → ⊥) → IsUndone old (Told i)
+  pub current_undone : (i : Item) → IsCurrent old i → (IsWhollyAcked old (Told i) → ⊥) → IsUndone old (Told i)
   current_undone (MaxData m) now not = (now.0, omega (arith, now.1), unless _ not)
   current_undone (MaxStreamData n m) (l, at, same, more, unsized) not = (l, at, same, omega (arith, more), unless _ not)
   current_undone (MaxStreams d m) now not = (now.0, omega (arith, now.1), unless _ not)

@@ -17,7 +17,7 @@ use Rattle.qs_machine.specs.Due.{known_count}
 use Rattle.qs_machine.proofs.TablesAfter.{KeptIn}
 use Rattle.qs_machine.proofs.EachHalf.{SendEdit, send_edited}
 use Rattle.qs_progress.specs.Score.{is_done, told_from, first_count, score}
-use Rattle.qs_progress.specs.Outstanding.{IsReached}
+use Rattle.qs_progress.specs.Outstanding.{IsWhollyAcked}
 use Rattle.qs_progress.proofs.Score.{Goes, first_same, window_same}
 use Rattle.qs_progress.proofs.Outstanding.{AcksStay, stay_same, stop_stays}
 use Rattle.qs_progress.proofs.Even.{members_even, acked_even, fin_even, reset_even, sent_told_even, stop_even, got_told_even, granted_told_even, blocked_told_even, data_told_even, data_blocked_even}
@@ -36,7 +36,7 @@ IsUndone e (Told (StreamDataBlocked n m)) = (l : SendLane) × (lookup e.sends n 
 IsUndone e (Told (StreamsBlocked d m)) = (m ≡ known_count e d) × (first_count e.peer d ≤ m) × (is_done e.acked (StreamsBlocked d m) ≡ false)
 
 -- it isn't acknowledged
-pub undone_unreached : (e : End) (p : Piece) → IsUndone e p → IsReached e p → ⊥
+pub undone_unreached : (e : End) (p : Piece) → IsUndone e p → IsWhollyAcked e p → ⊥
 undone_unreached e p h h2 = grind (arith, nat_tests)
 
 -- what is acknowledged of a half stays so, across each of its edits

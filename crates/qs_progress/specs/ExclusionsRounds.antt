@@ -11,7 +11,7 @@ use Rattle.qs_machine.specs.News.{IsReadable}
 use Rattle.qs_runs.specs.Logs.{Happening, other}
 use Rattle.qs_runs.specs.Worlds.{end_of}
 use Rattle.qs_progress.specs.Laps.{Moment, IsCalm}
-use Rattle.qs_progress.specs.Rounds.{Happens, Loses, Passes, Turn, IsRead, Round}
+use Rattle.qs_progress.specs.Rounds.{Happens, Loses, Delivers, TakesTurn, IsRead, Round}
 use Rattle.qs_progress.specs.Comes.{BothRest, Course}
 use Rattle.qs_progress.specs.ExclusionsLaps.{before, after}
 
@@ -26,19 +26,19 @@ pub record RoundExclusions : Type 0 where
   pub logged : (x : Happening) (m : Moment) → Happens x m m → ⊥
   -- none is one where losses change the other end, or leave a packet outstanding
   pub losses : (s : Side) (n : ℕ) (old new : Moment) → Loses s n old new → end_of new.ends (other s) ≡ end_of old.ends (other s)
-  pub outstanding : (s : Side) (old new : Moment) (turn : Turn s old new) (k : ℕ) → fmap.contains_key (end_of turn.0.ends s).outstanding k ≡ true → ⊥
+  pub outstanding : (s : Side) (old new : Moment) (turn : TakesTurn s old new) (k : ℕ) → fmap.contains_key (end_of turn.0.ends s).outstanding k ≡ true → ⊥
   -- or leaves off while something may go
-  pub more : (s : Side) (old new : Moment) → Turn s old new → Sendable (end_of new.ends s) → ⊥
+  pub more : (s : Side) (old new : Moment) → TakesTurn s old new → Sendable (end_of new.ends s) → ⊥
   -- where a packet that is made doesn't come
-  pub comes : (s : Side) (first delay room : ℕ) (made : Made) (text : List ℕ) (old new : Moment) → Happens (makes s first delay room made text) old new → Passes s old new → ⊥
+  pub comes : (s : Side) (first delay room : ℕ) (made : Made) (text : List ℕ) (old new : Moment) → Happens (makes s first delay room made text) old new → Delivers s old new → ⊥
   -- or another comes
   pub numbered : (s : Side) (first delay room k : ℕ) (made : Made) (text bytes : List ℕ) (old mid new : Moment) → Happens (makes s first delay room made text) old mid
-      → Happens (record { end = other s; call = Receive k bytes; answer = Ok Done }) mid new → Passes s old new → k ≡ made.number
+      → Happens (record { end = other s; call = Receive k bytes; answer = Ok Done }) mid new → Delivers s old new → k ≡ made.number
   -- or it isn't taken in whole
   pub whole : (s : Side) (first delay room : ℕ) (made : Made) (text bytes : List ℕ) (old mid new : Moment) → Happens (makes s first delay room made text) old mid
-      → Happens (record { end = other s; call = Receive made.number bytes; answer = Ok NoMemory }) mid new → Passes s old new → ⊥
+      → Happens (record { end = other s; call = Receive made.number bytes; answer = Ok NoMemory }) mid new → Delivers s old new → ⊥
   -- where anything is lost, asked for, set or closed as an end sends
-  pub asks : (s : Side) (x : Happening) (old new : Moment) → Happens x old new → Passes s old new → IsCalm x.call
+  pub asks : (s : Side) (x : Happening) (old new : Moment) → Happens x old new → Delivers s old new → IsCalm x.call
   -- or as they read, or a packet is made then
   pub reads_only : (call : Call) → IsRead call → IsCalm call
   pub makes_none : (first delay room : ℕ) → IsRead (Make first delay room) → ⊥

@@ -45,6 +45,6 @@ Sometime P ms = (m : Moment) × Among m ms × P m.ends
 pub record Lap (old new : Moment) : Type 0 where
   pub moments : List Moment
   pub calm : Trail IsCalm old moments new
-  pub landed : (s : Side) (k : ℕ) → k < (end_of old.ends s).next → fmap.contains_key (end_of new.ends s).outstanding k ≡ false
-  pub spent : (s : Side) → Sometime (λ w. HasMore (end_of w s) → ⊥) moments
-  pub read : (s : Side) → Sometime (λ w. IsLeast (IsReadable (end_of w s)) 0 None) moments
+  pub none_out : (s : Side) (k : ℕ) → k < (end_of old.ends s).next → fmap.contains_key (end_of new.ends s).outstanding k ≡ false
+  pub none_to_send : (s : Side) → Sometime (λ w. HasMore (end_of w s) → ⊥) moments
+  pub none_to_read : (s : Side) → Sometime (λ w. IsLeast (IsReadable (end_of w s)) 0 None) moments

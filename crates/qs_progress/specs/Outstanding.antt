@@ -21,14 +21,14 @@ abbrev pub IsIn : PacketPieces → ℕ → Piece → Type 0
 IsIn m k p = (ps : List Piece) × (fmap.get m k ≡ Some ps) × Among p ps
 
 -- the piece is acknowledged: each of its offsets and its end, the reset of the half, or the item with its value or a greater one
-abbrev pub IsReached : End → Piece → Type 0
-IsReached e (Data n c) =
+abbrev pub IsWhollyAcked : End → Piece → Type 0
+IsWhollyAcked e (Data n c) =
     (l : SendLane) × (send_lane e n ≡ Some l) × ((q : ℕ) → c.offset ≤ q → q < c.offset + c.len → set.contains l.acked q ≡ true) × (c.fin ≡ true → l.fin_acked ≡ true)
-IsReached e (Told (ResetStream n code size)) = (l : SendLane) × (send_lane e n ≡ Some l) × (l.reset_acked ≡ true)
-IsReached e (Told i) = is_done e.acked i ≡ true
+IsWhollyAcked e (Told (ResetStream n code size)) = (l : SendLane) × (send_lane e n ≡ Some l) × (l.reset_acked ≡ true)
+IsWhollyAcked e (Told i) = is_done e.acked i ≡ true
 
 -- in every run, where nothing is lost, asked for or closed: what a packet carries that is outstanding stays so, or is acknowledged
 abbrev pub WhatIsOutStays : Type 0
 WhatIsOutStays =
     (a b : Settings) (h : History) (v w : World) (x : Happening) → Run a b h v → WorldStep h v x w → IsCalm x.call → (s : Side) (k : ℕ) (p : Piece) →
-    IsIn (end_of v s).outstanding k p → IsIn (end_of w s).outstanding k p ⊎ IsReached (end_of w s) p
+    IsIn (end_of v s).outstanding k p → IsIn (end_of w s).outstanding k p ⊎ IsWhollyAcked (end_of w s) p

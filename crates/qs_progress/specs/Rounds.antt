@@ -24,8 +24,8 @@ Loses s (suc n) old new = (k : ℕ) × (mid : Moment) × Happens (record { end =
 
 -- A call of an end makes the packet of its next number, and that comes to the other end, where it is taken in whole; or what happens
 -- changes neither end (RFC 9000, section 12.3). That the call made it isn't said, for nothing else may come under that number.
-abbrev pub Passes : Side → Moment → Moment → Type 0
-Passes s old new =
+abbrev pub Delivers : Side → Moment → Moment → Type 0
+Delivers s old new =
     ((call : Call) × (answer : Answer call) × (bytes : List ℕ) × (mid : Moment) × IsCalm call
     × Happens (record { end = s; call = call; answer = answer }) old mid
     × Happens (record { end = other s; call = Receive (end_of old.ends s).next bytes; answer = Ok Done }) mid new)
@@ -34,11 +34,11 @@ Passes s old new =
 -- so many times, and then nothing may go, not even an ACK (RFC 9000, sections 13.2 and 13.3)
 abbrev pub Sends : Side → ℕ → Moment → Moment → Type 0
 Sends s zero old new = (new ≡ old) × (Sendable (end_of old.ends s) → ⊥)
-Sends s (suc n) old new = (mid : Moment) × Passes s old mid × Sends s n mid new
+Sends s (suc n) old new = (mid : Moment) × Delivers s old mid × Sends s n mid new
 
 -- the turn of an end: its losses, and then what it sends (RFC 9000, section 13.3)
-abbrev pub Turn : Side → Moment → Moment → Type 0
-Turn s old new = (mid : Moment) × ((n : ℕ) × Loses s n old mid) × ((n : ℕ) × Sends s n mid new)
+abbrev pub TakesTurn : Side → Moment → Moment → Type 0
+TakesTurn s old new = (mid : Moment) × ((n : ℕ) × Loses s n old mid) × ((n : ℕ) × Sends s n mid new)
 
 -- a read, into a slice or without a copy, and a look (RFC 9000, section 2.2)
 abbrev pub IsRead : Call → Type 0
@@ -52,7 +52,7 @@ pub record Round (old new : Moment) : Type 0 where
   pub sent_a : Moment
   pub sent_b : Moment
   pub moments : List Moment
-  pub turn_a : Turn A old sent_a
-  pub turn_b : Turn B sent_a sent_b
+  pub turn_a : TakesTurn A old sent_a
+  pub turn_b : TakesTurn B sent_a sent_b
   pub reads : Trail IsRead sent_b moments new
-  pub read : (s : Side) → Sometime (λ w. IsLeast (IsReadable (end_of w s)) 0 None) (sent_b ∷ moments)
+  pub none_to_read : (s : Side) → Sometime (λ w. IsLeast (IsReadable (end_of w s)) 0 None) (sent_b ∷ moments)

@@ -97,7 +97,7 @@ reads_at_rest : (r : RecvLane) → r.limit ≡ 1024 → r.stop_code ≡ None →
 reads_at_rest r limit stop told =
     record {
       quiet = silent (reads_by r) (reads_silent r limit stop);
-      landed = λ p flies. carried-empty p flies;
+      none_out = λ p flies. carried-empty p flies;
       read_out = λ n l at. (let same : l ≡ r = only_open r l n at in rw same told);
     }
 
@@ -117,10 +117,10 @@ first_came = contains-with_range set.empty 0 3 0 ∙ go
 rests : IsAtRest
 rests =
     record {
-      new = λ role. record { quiet = silent (new_end role standard default_tuning (limits_of standard)) (new_silent role); landed = λ p flies. carried-empty p flies; read_out = λ n l at. absurd (none-some l (sym (no_lane n) ∙ at)) };
+      new = λ role. record { quiet = silent (new_end role standard default_tuning (limits_of standard)) (new_silent role); none_out = λ p flies. carried-empty p flies; read_out = λ n l at. absurd (none-some l (sym (no_lane n) ∙ at)) };
       ack = record {
         quiet = silent _ (record { sends = (new_silent Client).sends; granted = omega arith; bidi = omega arith; uni = omega arith; recvs = (new_silent Client).recvs; wants_bidi = refl; wants_uni = refl });
-        landed = λ p flies. carried-empty p flies;
+        none_out = λ p flies. carried-empty p flies;
         read_out = λ n l at. absurd (none-some l (sym (no_lane n) ∙ at));
       };
       waits = reads_at_rest fresh refl refl waiting;
@@ -151,7 +151,7 @@ others =
       end = end_due;
       in_flight = (
         mute _ (record { sends = (new_silent Client).sends; granted = omega arith; bidi = omega arith; uni = omega arith; recvs = (new_silent Client).recvs; wants_bidi = refl; wants_uni = refl }) refl,
-        λ rest. rest.landed (Told (MaxData 4096)) (one_carried 0 (Told (MaxData 4096))),
+        λ rest. rest.none_out (Told (MaxData 4096)) (one_carried 0 (Told (MaxData 4096))),
       );
       unread = (mute _ (reads_silent three_came refl refl) refl, unread);
       untold_end = (mute _ (reads_silent (take_stream fresh 0 [] true) refl refl) refl, λ rest. false≢true (rest.read_out 0 _ (is_there (take_stream fresh 0 [] true))));

@@ -22,7 +22,7 @@ module _ (e : End) (open_end : e.closed ≡ None) (true_of : (n : ℕ) (l : Recv
   idle quiet none unread =
       record {
         quiet = λ more. quiet (open_end, more);
-        landed = none_outstanding e none;
+        none_out = none_outstanding e none;
         read_out = λ n l is. no_news l (true_of n l is) (go n l is (is_readable l) refl);
       }
     where

@@ -38,7 +38,7 @@ limit_by _ b x y z = refl
 pub items_acked : ItemsAreAcked
 items_acked e i rest current =
     elim (item_part e i current) [
-      | inl flies ↦ absurd (rest.landed (Told i) flies)
+      | inl flies ↦ absurd (rest.none_out (Told i) flies)
       | inr down ↦ elim down [ inl acked ↦ acked | inr due ↦ absurd (rest.quiet (inl (i, due))) ]
     ]
 

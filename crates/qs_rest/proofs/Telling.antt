@@ -133,7 +133,7 @@ module _ (e : End) (rest : AtRest e) (n : ℕ) (l : SendLane) (at : send_lane e 
     where
       go : (b : Bool) → set.contains l.acked q ≡ b → (set.contains l.acked q ≡ true) ⊎ IsDue e n l q
       go true is = inl is
-      go false is = inr (record { no_reset = no_reset; written = lt; not_acked = is; not_sent = λ (c, flies, low, high). rest.landed (Data n c) flies })
+      go false is = inr (record { no_reset = no_reset; written = lt; not_acked = is; not_sent = λ (c, flies, low, high). rest.none_out (Data n c) flies })
 
   -- what was sent is acknowledged
   pub sent_acked : l.sent_end ≤ l.written → l.sent_end ≤ l.limit → (q : ℕ) → q < l.sent_end → set.contains l.acked q ≡ true
@@ -167,7 +167,7 @@ module _ (e : End) (rest : AtRest e) (n : ℕ) (l : SendLane) (at : send_lane e 
       go : (b : Bool) → l.fin_acked ≡ b → l.fin_acked ≡ true
       go true is = is
       go false is =
-          let due : IsEndDue e n l = record { no_reset = no_reset; finished = finished; not_acked = is; not_sent = λ offset len flies. rest.landed _ flies } in
+          let due : IsEndDue e n l = record { no_reset = no_reset; finished = finished; not_acked = is; not_sent = λ offset len flies. rest.none_out _ flies } in
           absurd (rest.quiet (inr (n, (l, at, inr (due, whole)))))
 
 -- What a reader was told of the end of a stream stands for good.

@@ -32,7 +32,7 @@ HasMore e = ((i : Item) × IsDueItem e i) ⊎ ((n : ℕ) × StreamGoes e n)
 -- sections 3.2 and 13.3).
 pub record AtRest (e : End) : Type 0 where
   pub quiet : HasMore e → ⊥
-  pub landed : (p : Piece) → IsOutstanding e p → ⊥
+  pub none_out : (p : Piece) → IsOutstanding e p → ⊥
   pub read_out : (n : ℕ) (l : RecvLane) → recv_lane e n ≡ Some l → TellsNoNews (read_answer l 1) l
 
 -- in every run each end keeps what a rest needs
