@@ -4,8 +4,10 @@ import pathlib
 import sys
 
 FILE = pathlib.Path(__file__).resolve().parent.parent / "tests/costs"
+ALONE = "of three runs alone"
 HEAD = """# What a check of each crate from nothing takes: its name, seconds of the processor, and seconds that a fixed work took in the same run, which
-# say how fast the machine was. `scripts/seconds --measure CRATE` writes a line, and `./test` holds each proof to it (scripts/costs).
+# say how fast the machine was. `scripts/seconds --measure CRATE` writes a line, and `./test` holds each proof to it (scripts/costs). One that
+# wasn't measured alone fails nothing.
 """
 
 
