@@ -98,7 +98,8 @@ pub fn receive_batch(
                     return Ok(is_refused);
                 }
                 ErrorKind::ConnectionRefused => is_refused = true,
-                _ => return Err(error),
+                // What the network tells of datagrams that went says nothing of those that come.
+                _ => {}
             },
         }
         if place == 0 {
@@ -108,13 +109,14 @@ pub fn receive_batch(
     Ok(is_refused)
 }
 
-/// Returns whether there is more: then it has another turn behind the others.
+/// Returns whether there is more: then it has another turn behind the others. A datagram that the system doesn't take is lost as any
+/// other.
 pub fn turn<A: Application>(
     connection: &mut Connection,
     application: &mut A,
     out: &mut Vec<u8>,
-    mut transmit: impl FnMut(&[u8]) -> io::Result<usize>,
-) -> io::Result<bool> {
+    mut transmit: impl FnMut(&[u8]),
+) -> bool {
     let now = Instant::now();
     if let Some(end) = connection.end()
         && let Err(close) = application.progress(end)
@@ -124,17 +126,11 @@ pub fn turn<A: Application>(
     application.prioritize(connection.priorities());
     for _ in 0..BATCH {
         if !connection.send(out, now) {
-            return Ok(false);
+            return false;
         }
-        match transmit(out) {
-            Ok(_) => {}
-            // A datagram that the system doesn't take is lost as any other.
-            Err(error) if error.kind() == ErrorKind::WouldBlock => {}
-            Err(error) if error.kind() == ErrorKind::ConnectionRefused => {}
-            Err(error) => return Err(error),
-        }
+        transmit(out);
     }
-    Ok(true)
+    true
 }
 
 fn part<A: Application>(phase: Phase, connection: &mut Connection, application: &mut A) {
@@ -257,7 +253,7 @@ impl<A: Application> Server<A> {
         })?;
         concerned.extend(self.timers_are_up());
         for key in concerned {
-            if self.go_on(key, out)? {
+            if self.go_on(key, out) {
                 self.busy.insert(key);
             }
         }
@@ -337,9 +333,9 @@ impl<A: Application> Server<A> {
         Some(key)
     }
 
-    fn go_on(&mut self, key: u64, out: &mut Vec<u8>) -> io::Result<bool> {
+    fn go_on(&mut self, key: u64, out: &mut Vec<u8>) -> bool {
         let Some(served) = self.served.get(key) else {
-            return Ok(false);
+            return false;
         };
         let Served {
             connection,
@@ -349,8 +345,8 @@ impl<A: Application> Server<A> {
         } = served;
         part(self.phase, connection, application);
         let more = turn(connection, application, out, |bytes| {
-            self.socket.send_to(bytes, *peer)
-        })?;
+            _ = self.socket.send_to(bytes, *peer);
+        });
         for id in connection.take_new_ids() {
             self.ids.insert(id, key);
         }
@@ -365,10 +361,10 @@ impl<A: Application> Server<A> {
             }
             self.timers.set(key, None);
             self.served.remove(key);
-            return Ok(false);
+            return false;
         }
         self.timers.set(key, connection.timer(Instant::now()));
-        Ok(more)
+        more
     }
 }
 
@@ -448,9 +444,9 @@ mod tests {
             let mut out = Vec::new();
             let transmit = |bytes: &[u8]| {
                 client.sent += 1;
-                client.socket.send(bytes)
+                client.socket.send(bytes).unwrap();
             };
-            turn(connection, &mut client.application, &mut out, transmit).unwrap();
+            turn(connection, &mut client.application, &mut out, transmit);
             let now = Some(Instant::now());
             self.server.turn(now, &mut out).unwrap();
             let take = |datagram: &mut [u8], _| {
