@@ -1,6 +1,7 @@
 //! A server's log: a line on standard output for each request, once it is over.
 
 use crate::fault::Outcome;
+use std::any::Any;
 use std::fmt::Display;
 use std::net::SocketAddr;
 use std::time::{Duration, SystemTime, UNIX_EPOCH};
@@ -76,6 +77,15 @@ impl Entry {
 pub fn trouble(peer: SocketAddr, what: &str, outcome: &Outcome) {
     let time = utc(SystemTime::now());
     say(format_args!("{time} {peer} {what}: {outcome}"));
+}
+
+/// A fault of this program showed as it worked for a peer.
+pub fn fault(peer: SocketAddr, panic: &(dyn Any + Send)) {
+    let time = utc(SystemTime::now());
+    let text = panic.downcast_ref::<&str>().copied();
+    let text = text.or_else(|| panic.downcast_ref().map(String::as_str));
+    let text = text.unwrap_or("a panic without a reason");
+    say(format_args!("{time} {peer} the server has a fault: {text}"));
 }
 
 #[cfg(test)]

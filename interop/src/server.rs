@@ -1,7 +1,7 @@
 //! A server: many connections on one socket.
 
 use crate::connection::{Config, Connection, DATAGRAM};
-use crate::fault::{Close, Outcome};
+use crate::fault::{Close, Fault, INTERNAL_ERROR, Outcome};
 use crate::log;
 use crate::memory;
 use crate::packet::{
@@ -15,6 +15,7 @@ use rustls::ServerConfig;
 use std::collections::{BTreeSet, HashMap};
 use std::io::{self, ErrorKind};
 use std::net::{SocketAddr, UdpSocket};
+use std::panic::{AssertUnwindSafe, catch_unwind};
 use std::sync::Arc;
 use std::thread;
 use std::time::{Duration, Instant};
@@ -162,6 +163,57 @@ fn tell_end<A: Application>(peer: SocketAddr, was_open: bool, outcome: &Outcome)
     }
 }
 
+/// Works for one peer. A fault of this program that shows then is told, and the others are served as before.
+fn apart<T>(peer: SocketAddr, work: impl FnOnce() -> T) -> Option<T> {
+    let done = catch_unwind(AssertUnwindSafe(work));
+    done.inspect_err(|panic| log::fault(peer, panic.as_ref()))
+        .ok()
+}
+
+impl<A: Application> Served<A> {
+    // After a fault the connection is closed. Where there is another one as that is done, it is forgotten.
+    fn apart<T>(&mut self, work: impl FnOnce(&mut Served<A>) -> T) -> Option<T> {
+        let done = apart(self.peer, || work(self));
+        if done.is_none() {
+            match self.connection.outcome() {
+                None => self.connection.fail(
+                    Fault::new(INTERNAL_ERROR, 0, "the server has a fault"),
+                    Instant::now(),
+                ),
+                Some(_) => self.connection.forget(),
+            }
+        }
+        done
+    }
+
+    fn take(&mut self, datagram: &mut [u8], from: SocketAddr) {
+        let is_there = self.connection.receive(datagram, Instant::now());
+        if is_there && self.peer != from {
+            let is_other_host = self.peer.ip() != from.ip();
+            if let Err(fault) = self.connection.follow(datagram.len(), is_other_host) {
+                return program::tell(&fault.to_string());
+            }
+            program::tell_more(&format!("{} goes on as {from}", self.peer));
+            self.peer = from;
+        }
+    }
+
+    // Answers whether there is more.
+    fn go_on(&mut self, phase: Phase, socket: &UdpSocket, out: &mut Vec<u8>) -> bool {
+        let connection = &mut self.connection;
+        part(phase, connection, &mut self.application);
+        let more = turn(connection, &mut self.application, out, |bytes| {
+            _ = socket.send_to(bytes, self.peer);
+        });
+        if let (Some(outcome), false) = (connection.outcome(), self.was_told) {
+            self.was_told = true;
+            tell_end::<A>(self.peer, connection.was_open(), outcome);
+            self.application.ended(connection.last_end(), outcome);
+        }
+        more
+    }
+}
+
 impl<A> Table<A> {
     fn get(&mut self, key: u64) -> Option<&mut Served<A>> {
         self.looks += 1;
@@ -265,7 +317,7 @@ impl<A: Application> Server<A> {
         let due = self.timers.take_due(now);
         for key in &due {
             if let Some(served) = self.served.get(*key) {
-                served.connection.time_is_up(now);
+                served.apart(|served| served.connection.time_is_up(now));
             }
         }
         due
@@ -276,16 +328,7 @@ impl<A: Application> Server<A> {
         let packet = read_packet(datagram)?;
         if let Some(key) = self.ids.get(&packet.destination) {
             let served = self.served.get(*key)?;
-            let connection = &mut served.connection;
-            if connection.receive(datagram, Instant::now()) && served.peer != from {
-                let is_other_host = served.peer.ip() != from.ip();
-                let followed = connection.follow(datagram.len(), is_other_host);
-                followed
-                    .inspect_err(|fault| program::tell(&fault.to_string()))
-                    .ok()?;
-                program::tell_more(&format!("{} goes on as {from}", served.peer));
-                served.peer = from;
-            }
+            served.apart(|served| served.take(datagram, from));
             return Some(*key);
         }
         if packet.version != VERSION_1 && packet.version != 0 && datagram.len() >= DATAGRAM {
@@ -313,7 +356,7 @@ impl<A: Application> Server<A> {
         let mut connection = Connection::server(tls, self.config, destination, source, now)
             .inspect_err(|fault| program::tell(&format!("no connection: {fault}")))
             .ok()?;
-        connection.receive(datagram, now);
+        apart(from, || connection.receive(datagram, now))?;
         if !connection.has_peer() {
             return None;
         }
@@ -337,23 +380,12 @@ impl<A: Application> Server<A> {
         let Some(served) = self.served.get(key) else {
             return false;
         };
-        let Served {
-            connection,
-            peer,
-            application,
-            was_told,
-        } = served;
-        part(self.phase, connection, application);
-        let more = turn(connection, application, out, |bytes| {
-            _ = self.socket.send_to(bytes, *peer);
-        });
+        let went = served.apart(|served| served.go_on(self.phase, &self.socket, out));
+        // (what is closed has that to tell)
+        let more = went.unwrap_or(true);
+        let connection = &mut served.connection;
         for id in connection.take_new_ids() {
             self.ids.insert(id, key);
-        }
-        if let (Some(outcome), false) = (connection.outcome(), *was_told) {
-            *was_told = true;
-            application.ended(connection.last_end(), outcome);
-            tell_end::<A>(*peer, connection.was_open(), outcome);
         }
         if connection.is_gone() {
             for id in connection.ids() {
@@ -379,6 +411,7 @@ mod tests {
     use crate::raw::{PROTOCOL, RawClient, RawServer};
     use crate::tls::server_config;
     use gotsavena::{Endpoint, Settings, Tuning};
+    use std::cell::Cell;
 
     const IDLE: usize = 30;
     const FILES: usize = 50;
@@ -393,8 +426,8 @@ mod tests {
         }
     }
 
-    struct World {
-        server: Server<RawServer>,
+    struct World<S = RawServer> {
+        server: Server<S>,
         config: Config,
     }
 
@@ -407,6 +440,13 @@ mod tests {
 
     impl World {
         fn new() -> World {
+            let folder = Folder::open(env!("CARGO_MANIFEST_DIR")).unwrap();
+            World::of(move |_| RawServer::new(folder.clone()))
+        }
+    }
+
+    impl<S: Application> World<S> {
+        fn of(make: impl Fn(SocketAddr) -> S + 'static) -> World<S> {
             // One file at a time.
             let settings = Settings::small().bidi_streams(1, 1000);
             let config = Config {
@@ -417,8 +457,6 @@ mod tests {
             };
             let socket = UdpSocket::bind("127.0.0.1:0").unwrap();
             let tls = server_config(Identity::new().unwrap(), &[PROTOCOL]).unwrap();
-            let folder = Folder::open(env!("CARGO_MANIFEST_DIR")).unwrap();
-            let make = move |_| RawServer::new(folder.clone());
             World {
                 server: Server::new(socket, tls, config, make),
                 config,
@@ -478,6 +516,43 @@ mod tests {
         // no_application_protocol (RFC 7301, section 3.2; RFC 9001, section 8.1)
         let told = " the handshake failed: failed with code 0x178 ";
         assert!(said[0].contains(told), "{said:?}");
+    }
+
+    // Where it has no server it panics.
+    struct Perhaps(Option<RawServer>);
+
+    impl Application for Perhaps {
+        const NO_ERROR: u64 = 0;
+
+        fn progress(&mut self, end: &mut Endpoint) -> Result<(), Close> {
+            self.0.as_mut().expect("of the test").progress(end)
+        }
+    }
+
+    #[test]
+    fn a_panic_ends_its_connection_alone() {
+        let folder = Folder::open(env!("CARGO_MANIFEST_DIR")).unwrap();
+        let is_first = Cell::new(true);
+        let mut world =
+            World::of(move |_| Perhaps((!is_first.take()).then(|| RawServer::new(folder.clone()))));
+        let wanted = || RawClient::new(vec!["Cargo.toml".to_owned()]);
+        let [mut first, mut second] = [wanted(), wanted()].map(|wanted| world.client(wanted));
+        while first.connection.outcome().is_none() || second.connection.outcome().is_none() {
+            world.step(&mut first);
+            world.step(&mut second);
+        }
+        let told = Outcome::PeerClosed {
+            by_application: false,
+            code: INTERNAL_ERROR,
+            reason: "the server has a fault".to_owned(),
+        };
+        assert_eq!(first.connection.outcome(), Some(&told));
+        assert!(matches!(second.application.loaded[..], [(_, Some(_))]));
+        let said = log::SAID.take();
+        assert!(
+            said[0].ends_with(" the server has a fault: of the test"),
+            "{said:?}"
+        );
     }
 
     #[test]

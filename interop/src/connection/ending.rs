@@ -115,11 +115,16 @@ impl Connection {
         }
     }
 
-    pub(super) fn fail(&mut self, fault: Fault, now: Instant) {
+    pub fn fail(&mut self, fault: Fault, now: Instant) {
         if matches!(self.state, State::Open) {
             self.outcome = Some(Outcome::Failed(fault));
             self.begin_closing(now);
         }
+    }
+
+    /// Nothing more comes of it.
+    pub fn forget(&mut self) {
+        self.state = State::Gone;
     }
 
     fn trace_closed(&mut self, now: Instant) {

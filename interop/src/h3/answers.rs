@@ -93,14 +93,20 @@ impl Request {
 
     fn of_file(&self, found: Found) -> io::Result<Answer> {
         let tag = tag(&found);
-        let modified = fmt_http_date(found.modified.min(SystemTime::now()));
-        let fields = [("etag", tag.as_str()), ("last-modified", &modified)];
-        if self.is_fresh(&found, &tag) {
-            let mut answer = Answer::of("304", &fields);
+        let status = match self.is_fresh(&found, &tag) {
+            true => "304",
+            false => "200",
+        };
+        let mut answer = Answer::of(status, &[("etag", &tag)]);
+        // The library has no words for a time before 1970.
+        if found.modified >= UNIX_EPOCH {
+            let modified = fmt_http_date(found.modified.min(SystemTime::now()));
+            answer.add("last-modified", &modified);
+        }
+        if status == "304" {
             answer.len = None;
             return Ok(answer);
         }
-        let mut answer = Answer::of("200", &fields);
         answer.add("content-type", &found.kind);
         answer.add("accept-ranges", "bytes");
         let whole = found.len;
@@ -192,12 +198,11 @@ fn seconds(time: SystemTime) -> u64 {
 
 // It is another one where the file's size or time is.
 fn tag(found: &Found) -> String {
-    let time = found.modified.duration_since(UNIX_EPOCH);
-    format!(
-        "\"{:x}-{:x}\"",
-        found.len,
-        time.unwrap_or_default().as_nanos()
-    )
+    let (sign, time) = match found.modified.duration_since(UNIX_EPOCH) {
+        Ok(since) => ("", since),
+        Err(before) => ("-", before.duration()),
+    };
+    format!("\"{:x}-{sign}{:x}\"", found.len, time.as_nanos())
 }
 
 // One range; of others the whole file goes (RFC 9110, section 14.2).
