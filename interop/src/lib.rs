@@ -31,6 +31,7 @@ pub mod priorities;
 pub mod program;
 pub mod protection;
 pub mod qlog;
+pub mod queue;
 pub mod ranges;
 pub mod raw;
 pub mod recovery;

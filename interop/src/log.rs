@@ -1,6 +1,8 @@
-//! A server's log: a line on standard output for each request, once it is over.
+//! A server's log: a line on standard output for each request, once it is over. What is said goes by a queue, so that a server goes on
+//! where no one reads it.
 
 use crate::fault::Outcome;
+use crate::queue::{ERR, OUT};
 use std::any::Any;
 use std::fmt::Display;
 use std::net::SocketAddr;
@@ -93,14 +95,23 @@ thread_local! {
     pub static SAID: std::cell::RefCell<Vec<String>> = const { std::cell::RefCell::new(Vec::new()) };
 }
 
-/// Writes a line on standard output. A server goes on where no one reads it.
+/// Writes a line on standard output.
 pub fn say(line: impl Display) {
     #[cfg(test)]
     SAID.with_borrow_mut(|said| said.push(line.to_string()));
     #[cfg(not(test))]
-    {
-        _ = std::io::Write::write_fmt(&mut std::io::stdout(), format_args!("{line}\n"));
-    }
+    OUT.say(line.to_string());
+}
+
+/// Writes a line on standard error.
+pub fn tell(line: impl Display) {
+    ERR.say(line.to_string());
+}
+
+/// Waits until what was said is written, as long as someone reads it.
+pub fn flush() {
+    OUT.flush();
+    ERR.flush();
 }
 
 // A time of the world's clock (RFC 3339), by the Gregorian calendar: years are counted from March on, so that a leap day ends one.

@@ -4,7 +4,7 @@ use crate::budget;
 use crate::certificate::Identity;
 use crate::connection::{ClientSetup, Config, Connection};
 use crate::fault::Outcome;
-use crate::log::say;
+use crate::log::{flush, say, tell};
 use crate::packet::VERSION_1;
 use crate::tls::client_config;
 use gotsavena::{Settings, Tuning};
@@ -47,10 +47,6 @@ pub struct Words {
     pub rest: Vec<String>,
 }
 
-pub fn tell(line: &str) {
-    eprintln!("{line}");
-}
-
 pub fn tell_more(line: &str) {
     if TELLS_MORE.load(Ordering::Relaxed) {
         tell(line);
@@ -71,17 +67,22 @@ pub fn run(usage: &str, main: impl FnOnce(Words) -> Result<(), Refusal>) -> Exit
         }
         Ok(())
     };
-    match words(std::env::args().skip(1)).and_then(answer) {
-        Ok(()) => ExitCode::SUCCESS,
-        Err(Refusal::Usage(reason)) => {
-            tell(&format!("{reason}\nusage: {usage}"));
-            ExitCode::from(2)
+    std::panic::set_hook(Box::new(|panic| tell(panic)));
+    let answered = || words(std::env::args().skip(1)).and_then(answer);
+    let status = match catch_unwind(AssertUnwindSafe(answered)) {
+        Ok(Ok(())) => 0,
+        Ok(Err(Refusal::Usage(reason))) => {
+            tell(format_args!("{reason}\nusage: {usage}"));
+            2
         }
-        Err(Refusal::Failure(reason)) => {
-            tell(&reason);
-            ExitCode::from(1)
+        Ok(Err(Refusal::Failure(reason))) => {
+            tell(reason);
+            1
         }
-    }
+        Err(_) => 101,
+    };
+    flush();
+    ExitCode::from(status)
 }
 
 fn words(given: impl Iterator<Item = String>) -> Result<Words, Refusal> {
@@ -205,7 +206,7 @@ pub fn listen_on_all(texts: &[String]) -> Result<Vec<UdpSocket>, Refusal> {
             wanted.set_port(first.local_addr().map_err(Refusal::failure)?.port());
         }
         if !wanted.ip().is_loopback() {
-            tell(&format!(
+            tell(format_args!(
                 "warning: {wanted} is not of the loopback: whoever reaches it is served, by an example"
             ));
         }
@@ -213,7 +214,7 @@ pub fn listen_on_all(texts: &[String]) -> Result<Vec<UdpSocket>, Refusal> {
         match UdpSocket::bind(wanted) {
             Ok(socket) => sockets.push(socket),
             Err(error) if error.kind() == ErrorKind::AddrNotAvailable && !sockets.is_empty() => {
-                tell(&format!("{wanted} isn't listened on: {error}"));
+                tell(format_args!("{wanted} isn't listened on: {error}"));
             }
             Err(error) => return Err(refused(error)),
         }
@@ -287,7 +288,7 @@ where
 /// A server has a file for each answer, and a system lets a program have few by default.
 pub fn raise_file_limit() {
     if let Err(error) = rlimit::increase_nofile_limit(u64::MAX) {
-        tell(&format!("the limit of open files stays: {error}"));
+        tell(format_args!("the limit of open files stays: {error}"));
     }
 }
 

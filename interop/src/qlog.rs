@@ -3,9 +3,9 @@
 //! milliseconds since the connection began, which the reference time tells.
 
 use crate::fault::Outcome;
+use crate::log::tell;
 use crate::packet::{ConnectionId, Level};
 use crate::parameters::Parameters;
-use crate::program;
 use gotsavena::{AckRanges, Dir, Endpoint, Frame, Role, StreamId, frames};
 use std::collections::BTreeMap;
 use std::fmt::Write as _;
@@ -99,7 +99,7 @@ impl Trace {
         if let Some(file) = &mut self.file
             && let Err(error) = file.write_all(record.as_bytes())
         {
-            program::tell(&format!("a trace can't be written further: {error}"));
+            tell(format_args!("a trace can't be written further: {error}"));
             self.file = None;
         }
     }
@@ -300,9 +300,7 @@ fn millis(time: Duration) -> String {
 
 fn open(path: &Path) -> Option<File> {
     File::create(path)
-        .inspect_err(|error| {
-            program::tell(&format!("{} can't be written: {error}", path.display()))
-        })
+        .inspect_err(|error| tell(format_args!("{} can't be written: {error}", path.display())))
         .ok()
 }
 

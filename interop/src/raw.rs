@@ -2,7 +2,7 @@
 
 use crate::fault::Close;
 use crate::files::{Folder, is_exhausted};
-use crate::program::tell;
+use crate::log::tell;
 use crate::streams::{Application, Came, Outgoing, abandon, read_more};
 use gotsavena::{Dir, Endpoint, OpenFault, StreamId, UseFault};
 use std::collections::{BTreeMap, VecDeque};
@@ -66,7 +66,10 @@ impl Answer {
                 Ok(body) => *self = Answer::Goes(Outgoing::new(body)),
                 Err(error) => {
                     let code = if is_exhausted(&error) {
-                        tell(&format!("{} can't be opened: {error}", path.escape_debug()));
+                        tell(format_args!(
+                            "{} can't be opened: {error}",
+                            path.escape_debug()
+                        ));
                         INTERNAL_ERROR
                     } else {
                         NO_FILE

@@ -191,7 +191,7 @@ impl<A: Application> Served<A> {
         if is_there && self.peer != from {
             let is_other_host = self.peer.ip() != from.ip();
             if let Err(fault) = self.connection.follow(datagram.len(), is_other_host) {
-                return program::tell(&fault.to_string());
+                return log::tell(fault);
             }
             program::tell_more(&format!("{} goes on as {from}", self.peer));
             self.peer = from;
@@ -354,7 +354,7 @@ impl<A: Application> Server<A> {
         let (destination, source) = (packet.destination, packet.source);
         let tls = self.tls.clone();
         let mut connection = Connection::server(tls, self.config, destination, source, now)
-            .inspect_err(|fault| program::tell(&format!("no connection: {fault}")))
+            .inspect_err(|fault| log::tell(format_args!("no connection: {fault}")))
             .ok()?;
         apart(from, || connection.receive(datagram, now))?;
         if !connection.has_peer() {

@@ -2,7 +2,7 @@
 
 use super::session::Field;
 use crate::files::{Folder, Found, Listed, Named, is_exhausted};
-use crate::program::tell;
+use crate::log::tell;
 use crate::streams::Body;
 use html_escape::encode_text;
 use httpdate::{fmt_http_date, parse_http_date};
@@ -80,7 +80,7 @@ impl Request {
     /// What is there can't be given out for now (RFC 9110, section 15.6.4).
     pub fn unavailable(&self, reason: &str) -> Answer {
         let path = self.path.escape_ascii();
-        tell(&format!("{path} is answered 503: {reason}"));
+        tell(format_args!("{path} is answered 503: {reason}"));
         Answer::of("503", &[("retry-after", "10")])
     }
 
