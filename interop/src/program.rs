@@ -23,6 +23,9 @@ use std::time::{Duration, Instant};
 /// The stream layer's own bound.
 const MOST_STREAMS: u64 = 1 << 21;
 
+/// HTTP/3 needs so many for itself (RFC 9114, section 6.2).
+const LEAST_UNI: u64 = 3;
+
 static TELLS_MORE: AtomicBool = AtomicBool::new(false);
 
 #[derive(Debug)]
@@ -249,7 +252,7 @@ pub fn config(words: &mut Words) -> Result<Config, Refusal> {
         .bidi_remote_window(stream_window.min(1 << 16))
         .send_buffer(budget::OF_STREAM)
         .bidi_streams(streams, lifetime)
-        .uni_streams(streams, MOST_STREAMS);
+        .uni_streams(streams.max(LEAST_UNI), MOST_STREAMS);
     Ok(Config {
         settings,
         tuning: Tuning::default(),
