@@ -105,6 +105,9 @@ pub fn say(line: impl Display) {
 
 /// Writes a line on standard error.
 pub fn tell(line: impl Display) {
+    #[cfg(test)]
+    eprintln!("{line}");
+    #[cfg(not(test))]
     ERR.say(line.to_string());
 }
 

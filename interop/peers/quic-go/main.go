@@ -6,9 +6,10 @@
 // And over HTTP/3, by its package http3:
 //
 //	quic-go-peer h3-server DIR ADDR CERTIFICATE.pem KEY.pem
+//	quic-go-peer h3-client ADDR DIR N PATH
 //	quic-go-peer h3-resets ADDR DIR N PATH..
 //
-// The last loads files on one connection, and breaks off N other requests beside each in the middle: one half of them by
+// h3-client loads a file N times, each time on a connection of its own. h3-resets loads files on one connection, and breaks off N other requests beside each in the middle: one half of them by
 // RESET_STREAM alone, the other with STOP_SENDING.
 package main
 
@@ -55,6 +56,12 @@ func run(words []string) error {
 		return load(words[1], words[2], words[3:])
 	case len(words) == 5 && words[0] == "h3-server":
 		return serveHTTP(words[1], words[2], words[3], words[4])
+	case len(words) == 5 && words[0] == "h3-client":
+		count, err := strconv.Atoi(words[3])
+		if err != nil {
+			return err
+		}
+		return loadAnew(words[1], words[2], count, words[4])
 	case len(words) >= 5 && words[0] == "h3-resets":
 		count, err := strconv.Atoi(words[3])
 		if err != nil {
@@ -62,7 +69,7 @@ func run(words []string) error {
 		}
 		return loadAndBreakOff(words[1], words[2], count, words[4:])
 	}
-	return errors.New("server or h3-server DIR ADDR CERTIFICATE KEY, client ADDR DIR PATH.., or h3-resets ADDR DIR N PATH..")
+	return errors.New("server or h3-server DIR ADDR CERTIFICATE KEY, client ADDR DIR PATH.., h3-client ADDR DIR N PATH, or h3-resets ADDR DIR N PATH..")
 }
 
 func serve(folder, address, certificate, key string) error {
@@ -184,6 +191,23 @@ func serveHTTP(folder, address, certificate, key string) error {
 	}
 	fmt.Println("listening on", socket.LocalAddr())
 	return server.Serve(socket)
+}
+
+// loadAnew tells of each load that fails, and goes on with the next one.
+func loadAnew(address, folder string, count int, path string) error {
+	failed := 0
+	for place := 0; place < count; place++ {
+		client := &http3.RoundTripper{TLSClientConfig: &tls.Config{InsecureSkipVerify: true}}
+		if err := loadHTTP(client, "https://"+address+"/"+path, filepath.Join(folder, path)); err != nil {
+			fmt.Fprintln(os.Stderr, err)
+			failed++
+		}
+		client.Close()
+	}
+	if failed > 0 {
+		return fmt.Errorf("%d of %d loads failed", failed, count)
+	}
+	return nil
 }
 
 func loadAndBreakOff(address, folder string, count int, paths []string) error {

@@ -145,7 +145,7 @@ impl Connection {
                 self.control(Control::PathResponse(bytes.try_into().unwrap_or_default()));
             }
             Frame::PathResponse { bytes } => self.take_path_response(bytes),
-            Frame::RetireConnectionId { .. } => self.take_retired()?,
+            Frame::RetireConnectionId { sequence } => self.take_retired(sequence)?,
             Frame::HandshakeDone if !self.known.is_confirmed => self.confirm(),
             Frame::ConnectionClose { code, reason, .. } => {
                 self.peer_closed(false, code, reason, now)

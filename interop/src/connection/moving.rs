@@ -9,6 +9,7 @@ use crate::packet::{ConnectionId, Level};
 use crate::recovery::Control;
 use gotsavena::{Frame, Role, frames};
 use ring::rand::{SecureRandom, SystemRandom};
+use std::collections::BTreeSet;
 use std::time::Instant;
 
 /// A few at once, so that a client needn't use one at two addresses; and a bound in all, so that it can't ask for ever.
@@ -23,6 +24,7 @@ pub(super) struct Moving {
     /// Only a newer packet moves the connection: an old one may have been delayed at the old address.
     pub newest: Option<u64>,
     given: Vec<ConnectionId>,
+    retired: BTreeSet<u64>,
     known: usize,
     challenge: Option<[u8; 8]>,
 }
@@ -123,8 +125,12 @@ impl Connection {
         Ok(())
     }
 
-    pub(super) fn take_retired(&mut self) -> Result<(), Fault> {
-        self.give_id()
+    /// One takes the place of each that is retired. That comes again where its ACK was lost, and counts once.
+    pub(super) fn take_retired(&mut self, sequence: u64) -> Result<(), Fault> {
+        match self.moving.retired.insert(sequence) {
+            true => self.give_id(),
+            false => Ok(()),
+        }
     }
 
     /// The only one can't be retired: the peer would have none to use.

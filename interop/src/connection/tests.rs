@@ -293,6 +293,23 @@ fn little_goes_to_an_address_to_which_a_client_moved_until_it_answers() {
     exchange(&mut world, 100_000);
 }
 
+#[test]
+fn an_identifier_that_is_retired_again_and_again_is_replaced_once() {
+    let mut world = World::new(0, Duration::from_secs(5));
+    world.connect();
+    exchange(&mut world, 10_000);
+    let now = world.now;
+    let server = world.end(1);
+    server.take_new_ids();
+    let mut payload = [0; 16];
+    let len = put(&Frame::RetireConnectionId { sequence: 0 }, &mut payload).unwrap();
+    for _ in 0..3 {
+        let next = server.expected;
+        assert_eq!(server.take_data(next, &payload[..len], now), Ok(()));
+    }
+    assert_eq!(server.take_new_ids().len(), 1);
+}
+
 // One end writes so many bytes, which the other one reads. Answers how long that takes.
 fn sends(world: &mut World, count: usize) -> Duration {
     let begin = world.now;
