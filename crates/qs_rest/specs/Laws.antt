@@ -20,12 +20,10 @@ ItemsAreInOnePart = (e : End) (i : Item) → IsCurrent e i → IsOutstanding e (
 abbrev pub AllButAcksAsk : Type 0
 AllButAcksAsk = (old e : End) (f : Seen) → MayPut old e f → ((largest : ℕ) × (ranges : List (ℕ × ℕ)) × (f ≡ Ack largest ranges)) ⊎ (asks_ack f ≡ true)
 
--- a half whose reader stopped keeps that, and has taken up to its highest offset: all its credit is given back (RFC 9000, section 3.5)
-abbrev pub GivesBack : End → ℕ → ℕ → Type 0
-GivesBack e n code = (l : RecvLane) × (recv_lane e n ≡ Some l) × (l.stop_code ≡ Some code) × (taken l ≡ highest l)
-
--- whatever comes later (RFC 9000, section 3.5)
+-- A half whose reader stopped keeps that whatever comes, and has taken up to its highest offset: all its credit is given back (RFC 9000,
+-- section 3.5).
 abbrev pub StopsGiveBack : Type 0
 StopsGiveBack =
     (old : End) (call : Call) (answer : Answer call) (new : End) (n code : ℕ) (l : RecvLane) → EndStep old call answer new →
-    recv_lane old n ≡ Some l → l.stop_code ≡ Some code → GivesBack new n code
+    recv_lane old n ≡ Some l → l.stop_code ≡ Some code →
+    (k : RecvLane) × (recv_lane new n ≡ Some k) × (k.stop_code ≡ Some code) × (taken k ≡ highest k)

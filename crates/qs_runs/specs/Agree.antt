@@ -73,10 +73,6 @@ pub record Agree (h : History) (w : World) : Type 0 where
 
 -- Repeats (RFC 9000, sections 2.2, 4.1 and 12.3)
 
--- the offset of the stream was received
-abbrev pub HasCome : End → ℕ → ℕ → Type 0
-HasCome e n q = (l : RecvLane) × (recv_lane e n ≡ Some l) × (set.contains l.arrived.received q ≡ true)
-
 -- the stream's final size is known
 abbrev pub KnowsSize : End → ℕ → Type 0
 KnowsSize e n = (l : RecvLane) × (recv_lane e n ≡ Some l) × (l.final_size ≢ None)
@@ -84,7 +80,8 @@ KnowsSize e n = (l : RecvLane) × (recv_lane e n ≡ Some l) × (l.final_size �
 -- everything that a frame tells of offsets and final sizes was known before
 abbrev pub IsOld : End → Seen → Type 0
 IsOld e (Stream n offset bytes fin) =
-    ((q : ℕ) → offset ≤ q → q < offset + length bytes → HasCome e n q) × (fin ≡ true → KnowsSize e n)
+    ((q : ℕ) → offset ≤ q → q < offset + length bytes → (l : RecvLane) × (recv_lane e n ≡ Some l) × (set.contains l.arrived.received q ≡ true))
+    × (fin ≡ true → KnowsSize e n)
 IsOld e (Control (ResetStream n code size)) = KnowsSize e n
 IsOld e f = ⊤
 
