@@ -46,13 +46,6 @@ static void set_numbers(gv_frame *frame, const uint64_t numbers[3]) {
   frame->ect0 = frame->ect1 = frame->ce = third;
 }
 
-/* How many of the bytes are numbers as a frame has them, each in 1, 2, 4 or 8 bytes (section 16). */
-static size_t whole_numbers(const uint8_t *bytes, size_t len) {
-  size_t at = 0;
-  while (at < len && (size_t)1 << (bytes[at] >> 6) <= len - at) at += (size_t)1 << (bytes[at] >> 6);
-  return at;
-}
-
 /* A frame of any kind, whose bytes of streams follow the pattern. */
 static void take_frame(world *w, unsigned sender, size_t room, gv_frame *frame, uint8_t *bytes) {
   static const uint8_t token[TOKEN_LEN] = {1, 2, 3, 4, 5, 6, 7, 8, 9, 10, 11, 12, 13, 14, 15, 16};
@@ -70,7 +63,6 @@ static void take_frame(world *w, unsigned sender, size_t room, gv_frame *frame, 
   if (frame->kind == GV_FRAME_ACK) {
     size_t most = take_byte(&w->in) % 16;
     frame->bytes = take_bytes(&w->in, most, &frame->len);
-    frame->len = whole_numbers(frame->bytes, frame->len);
   } else if (frame->kind == GV_FRAME_STREAM) {
     frame->len = take_size(&w->in);
     if (frame->len + 24 > room) frame->len = room < 24 ? 0 : room - 24;

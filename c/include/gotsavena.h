@@ -901,8 +901,8 @@ GV_API gv_status gv_ack_next(gv_acked *ranges, gv_range *range);
 
 /** Writes the frame at the front of out, and its length to *len: each number in its shortest spelling; a STREAM always with its length, so
  * that another frame may follow, and with its offset if that isn't 0 (sections 16 and 19). What gv_frames_next() gave may be written as it
- * is. ::GV_INVALID: no frame has these fields, as a number that isn't below 2^62, or a PATH_CHALLENGE that hasn't 8 bytes. ::GV_NO_ROOM:
- * there is no room. */
+ * is. ::GV_INVALID: no frame has these fields, as a number that isn't below 2^62, an ACK whose ranges end inside a number, or a
+ * PATH_CHALLENGE that hasn't 8 bytes. ::GV_NO_ROOM: there is no room. */
 GV_API gv_status gv_put(const gv_frame *frame, uint8_t *out, size_t room, size_t *len);
 
 /** Writes an ACK without ECN counts at the front of out, of as many of the ranges as fit, from the first on; *written is how many these

@@ -101,6 +101,7 @@ static void none_of_them(void) {
   refused(&(gv_frame){.size = sizeof(gv_frame), .kind = GV_FRAME_NEW_CONNECTION_ID, .bytes = letters, .len = 4}, "no token");
   refused(&(gv_frame){.size = sizeof(gv_frame), .kind = GV_FRAME_ACK, .largest = 5}, "no range");
   refused(&(gv_frame){.size = sizeof(gv_frame), .kind = GV_FRAME_ACK, .largest = 5, .bytes = (const uint8_t *)"\x01\x01", .len = 2}, "half a range");
+  refused(&(gv_frame){.size = sizeof(gv_frame), .kind = GV_FRAME_ACK, .largest = 5, .bytes = (const uint8_t *)"\x00\x40", .len = 2}, "half a number");
   refused(&(gv_frame){.size = sizeof(gv_frame), .kind = GV_FRAME_ACK, .largest = 5, .bytes = (const uint8_t *)"\x06", .len = 1}, "below zero");
   refused(&(gv_frame){.size = sizeof(gv_frame), .kind = GV_FRAME_ACK, .largest = 5, .bytes = (const uint8_t *)"\x05", .len = 1, .delay = big}, "a delay");
   refused(&(gv_frame){.size = sizeof(gv_frame), .kind = GV_FRAME_ACK, .bytes = (const uint8_t *)"\x00", .len = 1, .has_ecn = true, .ce = big}, "a mark");

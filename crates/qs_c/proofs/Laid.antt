@@ -4,12 +4,11 @@ use Rattle.std.specs.Prelude.{is_some, if◌then◌else◌}
 use Rattle.std.proofs.lemmas.Bool.{le-ltb}
 use Rattle.std.proofs.lemmas.List.{length-append, take_at, drop_at, drop-drop}
 use Rattle.qs_wire.specs.declared.frame.EcnCounts.{EcnCounts}
-use Rattle.qs_wire.specs.Varint.{Spells, short, varint_at, numbers_of}
+use Rattle.qs_wire.specs.Varint.{Spells, short, varint_at}
 use Rattle.qs_wire.specs.Layout.{FrameValue, ack, stream, new_connection_id, Field, number, number_if, counted_if, plain, identifier, ack_ranges, ecn_if, Values, layout, frame_of, bit, number_of_type}
 use Rattle.qs_wire.specs.Grammar.{FieldsText, CountedText, NumbersText, counts_of, IsIdentifierLength}
 use Rattle.qs_wire.specs.Reading.{frame_at}
 use Rattle.qs_wire.proofs.Numbers.{IsBytes, varint_again, short_spells, short_byte}
-use Rattle.qs_wire.proofs.Ranges.{numbers_of-next, numbers_of-none}
 use Rattle.qs_wire.proofs.Types.{EachType, at_type, type_below}
 use Rattle.qs_wire.proofs.Shapes.{frame_takes}
 use Rattle.qs_c.specs.Frames.{Has}
@@ -159,14 +158,6 @@ numbers_skips : (vs b rest : List ℕ) → NumbersText vs b → Skips (length vs
 numbers_skips [] b rest h = last b rest h
 numbers_skips (v ∷ vs) b rest h = one (length vs) v h.0 h.1 b rest rest h.2 h.3 (numbers_skips vs h.1 rest h.4)
 
-numbers_text : (vs b : List ℕ) → NumbersText vs b → numbers_of b ≡ vs
-unfolding varint_at
-numbers_text [] b h = ap numbers_of h ∙ numbers_of-none [] refl
-numbers_text (v ∷ vs) b h =
-    let at : varint_at b ≡ Some (v, length h.0) = ap varint_at h.2 ∙ varint_again v h.0 h.1 h.3 in
-    let rest : drop (length h.0) b ≡ h.1 = ap (drop (length h.0)) h.2 ∙ drop_at h.0 h.1 (length h.0) refl in
-    numbers_of-next b (v, length h.0) at ∙ ap (λ (t : List ℕ). v ∷ numbers_of t) rest ∙ ap (λ (ws : List ℕ). v ∷ ws) (numbers_text vs h.1 h.4)
-
 ecn_skips : (ecn : Option EcnCounts) (flag : Bool) (body after : List ℕ) → FieldsText (ecn_if flag ∷ []) (ecn, tt) body after
     → Skips (if is_some ecn then 3 else 0) (body ++ after) after
 ecn_skips None true body after h = absurd h.3
@@ -207,7 +198,7 @@ ack_fields flag n vs body after bytes lead is h =
       laid = ap (λ (l : ℕ). laid_of l (length ranges) 0 (if is_some ecn then 3 else 0) bytes) lead ∙ laid_is 4 (length ranges) 0 (if is_some ecn then 3 else 0) bytes (text ++ left) left left [] after s m refl refl c;
       left = sym (ap (λ (k : ℕ). drop k bytes) (omega arith) ∙ sym (drops a (b + length c.text) bytes) ∙ ap (drop (b + length c.text)) d1 ∙ sym (drops b (length c.text) (text ++ left)) ∙ ap (drop (length c.text)) d2 ∙ d3);
       within = omega (arith, room);
-      has = ap numbers_of (ap (take (b + 0)) d1 ∙ take_at text left (b + 0) (omega (arith, same))) ∙ numbers_text ranges text r.6;
+      has = subst (NumbersText ranges) (sym (ap (take (b + 0)) d1 ∙ take_at text left (b + 0) (omega (arith, same)))) r.6;
     }
 
 ncid_fields : (n : ℕ) (vs : Values (number ∷ number ∷ identifier ∷ plain 16 ∷ [])) (body after bytes : List ℕ) → lead_of n ≡ 4 → FrontIs n body after bytes

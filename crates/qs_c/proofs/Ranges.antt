@@ -2,12 +2,12 @@
 use Rattle.std.proofs.Common.{◌≡◌, ℕ, zero, suc, ◌+◌, ◌-◌, ◌*◌, ◌/◌, ◌%◌, ◌^◌, ◌<◌, ◌≤◌, Bool, true, false, not, leb, ltb, ◌&&◌, List, [], ◌∷◌, ◌++◌, length, take, drop, map, get_or, set, Option, Some, None, refl, sym, ap, subst, ◌∙◌, arith}
 use Rattle.std.specs.List.{AllByRecursion}
 use Rattle.std.proofs.lemmas.Bool.{leb-true, ltb-true, and_parts}
-use Rattle.std.proofs.lemmas.List.{length-map, map-append, take_more, take_more_set}
+use Rattle.std.proofs.lemmas.List.{drop_at, length-append, length-drop, length-map, map-append, take-append-drop, take_more, take_more_set}
 use Rattle.qs_wire.specs.Varint.{varint_at, numbers_of, numbers_within, next_number}
 use Rattle.qs_wire.specs.Layout.{taken, ack_ranges_of}
-use Rattle.qs_wire.specs.Grammar.{AreRanges}
+use Rattle.qs_wire.specs.Grammar.{AreRanges, NumbersText}
 use Rattle.qs_wire.specs.Acks.{AreApartBelow, AreAckPairs}
-use Rattle.qs_wire.proofs.Numbers.{IsBytes, IsBytes-drop, parse_in_range}
+use Rattle.qs_wire.proofs.Numbers.{IsBytes, IsBytes-drop, parse_found, parse_in_range, varint_again, varint_within}
 use Rattle.qs_wire.proofs.Ranges.{numbers_of-next, numbers_of-none}
 use Rattle.qs_c.specs.declared.acks.GvRange.{GvRange}
 use Rattle.qs_c.specs.Acks.{pair_of, are_apart, RangeOut, RangeStep}
@@ -43,6 +43,36 @@ odd_ranges bytes fits small odd =
 pub not_true : (b : Bool) → not b ≡ true → b ≡ false
 not_true true e = absurd cc
 not_true false e = refl
+
+-- ---- the bytes of numbers alone
+
+empty : (bytes : List ℕ) → length bytes ≡ 0 → bytes ≡ []
+empty [] e = refl
+empty (b ∷ bs) e = absurd (omega (arith, e))
+
+-- numbers that take all bytes are these bytes' text
+pub whole_text : (n : ℕ) (bytes : List ℕ) → IsBytes bytes → n ≡ length (numbers_of bytes) → skip_of n bytes ≡ length bytes → NumbersText (numbers_of bytes) bytes
+whole_text n bytes fits count all = at n bytes fits (varint_at bytes) refl count all
+  where
+    at : (n : ℕ) (bytes : List ℕ) → IsBytes bytes → (o : Option (ℕ × ℕ)) → o ≡ varint_at bytes → n ≡ length (numbers_of bytes) → skip_of n bytes ≡ length bytes → NumbersText (numbers_of bytes) bytes
+    at n bytes fits None e count all =
+        let none = numbers_of-none bytes (sym e) in
+        let zero_bytes : length bytes ≡ 0 = omega (arith, all, skip_none n bytes (sym e)) in
+        subst (λ (vs : List ℕ). NumbersText vs bytes) (sym none) (empty bytes zero_bytes)
+    at zero bytes fits (Some x) e count all = absurd (omega (arith, count, ap length (numbers_of-next bytes x (sym e))))
+    at (suc n) bytes fits (Some x) e count all =
+        let next = numbers_of-next bytes x (sym e) in
+        let rest : List ℕ = drop x.1 bytes in
+        let more = at n rest (IsBytes-drop x.1 bytes fits) (varint_at rest) refl (omega (arith, count, ap length next)) (omega (arith, all, skip_more n bytes x (sym e), length-drop x.1 bytes, varint_within bytes x (sym e))) in
+        subst (λ (vs : List ℕ). NumbersText vs bytes) (sym next) (take x.1 bytes, rest, sym (take-append-drop x.1 bytes), parse_found bytes (Some x) fits e, more)
+
+-- and a text of numbers is taken by these
+pub text_whole : (vs bytes : List ℕ) → NumbersText vs bytes → skip_of (length vs) bytes ≡ length bytes
+text_whole [] bytes none = omega (arith, skip_zero bytes, ap length none)
+text_whole (v ∷ vs) bytes h =
+    let at : varint_at bytes ≡ Some (v, length h.0) = ap varint_at h.2 ∙ varint_again v h.0 h.1 h.3 in
+    let rest : drop (length h.0) bytes ≡ h.1 = ap (drop (length h.0)) h.2 ∙ drop_at h.0 h.1 (length h.0) refl in
+    omega (arith, skip_more (length vs) bytes (v, length h.0) at, ap (skip_of (length vs)) rest, text_whole vs h.1 h.4, ap length h.2, length-append h.0 h.1)
 
 -- ---- ranges as pairs
 

@@ -8,7 +8,7 @@ use Rattle.qs_wire.specs.declared.frame.EcnCounts.{EcnCounts}
 use Rattle.qs_wire.specs.Faults.{kind_number}
 use Rattle.qs_wire.specs.Varint.{numbers_of}
 use Rattle.qs_wire.specs.Layout.{FrameValue, PlacedValue, padding, ping, ack, reset_stream, stop_sending, crypto, new_token, stream, max_data, max_stream_data, max_streams, data_blocked, stream_data_blocked, streams_blocked, new_connection_id, retire_connection_id, path_challenge, path_response, connection_close, application_close, handshake_done}
-use Rattle.qs_wire.specs.Grammar.{canonical, Fits}
+use Rattle.qs_wire.specs.Grammar.{canonical, Fits, NumbersText}
 use Rattle.qs_wire.specs.Reading.{Reading, reading_from}
 use Rattle.qs_c.specs.declared.frame.GvFrame.{GvFrame}
 use Rattle.qs_c.specs.declared.frame.GvFault.{GvFault}
@@ -54,7 +54,7 @@ numbers_told handshake_done = of_kind 20
 
 -- the bytes of a frame, and the 16 bytes of its token, where it has them
 abbrev pub Has : FrameValue → List ℕ → List ℕ → Type 0
-Has (ack largest delay ranges ecn) bytes token = numbers_of bytes ≡ ranges
+Has (ack largest delay ranges ecn) bytes token = NumbersText ranges bytes
 Has (crypto offset b) bytes token = bytes ≡ b
 Has (new_token b) bytes token = bytes ≡ b
 Has (stream s offset fin b) bytes token = bytes ≡ b
@@ -144,14 +144,19 @@ frame_in f bytes token =
 abbrev pub written : List ℕ → ℕ → List ℕ → ℕ × ℕ × List ℕ
 written text len out = if nat_le (length text) (length out) then (0, length text, text ++ drop (length text) out) else (22, len, out)
 
+-- The frame has a text: its values can be spelled, and the bytes of an ACK are its ranges' numbers, the last one whole (RFC 9000, section 19.3.1).
+abbrev pub HasText : GvFrame → List ℕ → List ℕ → Type 0
+HasText f bytes token = Fits (frame_in f bytes token) × (f.kind ≡ 2 → NumbersText (numbers_of bytes) bytes)
+
 -- A frame is written where it has a text, and else refused.
-abbrev pub PutAnswer : FrameValue → ℕ × ℕ × List ℕ → ℕ → List ℕ → Type 0
-PutAnswer frame answer len out = (Fits frame × (answer ≡ written (canonical frame) len out)) ⊎ ((Fits frame → ⊥) × (answer ≡ (1, len, out)))
+abbrev pub PutAnswer : GvFrame → List ℕ → List ℕ → ℕ × ℕ × List ℕ → ℕ → List ℕ → Type 0
+PutAnswer f bytes token answer len out =
+    (HasText f bytes token × (answer ≡ written (canonical (frame_in f bytes token)) len out)) ⊎ ((HasText f bytes token → ⊥) × (answer ≡ (1, len, out)))
 
 -- A frame that C gives, of one of the kinds and in one of the directions.
 abbrev pub GivenAnswer : GvFrame → List ℕ → List ℕ → ℕ × ℕ × List ℕ → ℕ → List ℕ → Type 0
 GivenAnswer f bytes token answer len out =
-    MatchBool (nat_lt f.kind 21 && is_flag f.dir) (PutAnswer (frame_in f bytes token) answer len out) (answer ≡ (1, len, out))
+    MatchBool (nat_lt f.kind 21 && is_flag f.dir) (PutAnswer f bytes token answer len out) (answer ≡ (1, len, out))
 
 -- A frame that C hands in: of one of the kinds, in one of the directions, and of a stream that has a number.
 abbrev pub is_frame : GvFrame → Bool

@@ -1,18 +1,20 @@
 ghost use Rattle.std.specs.Prelude.{◌≡◌, ◌+◌, ◌^◌, ◌<◌, ◌≤◌, ◌&&◌, true, false, length, nat_lt, IfSome, IfNone};
 ghost use Rattle.qs_wire.specs.Varint.{numbers_of};
 ghost use Rattle.qs_wire.specs.Layout.{view, taken};
-ghost use Rattle.qs_wire.specs.Grammar.{Fits, AreRanges, CountsFit};
+ghost use Rattle.qs_wire.specs.Grammar.{Fits, AreRanges, CountsFit, NumbersText};
 ghost use Rattle.qs_c.specs.Statuses.{dir_of, is_flag};
 ghost use Rattle.qs_c.specs.Frames.{some_if, frame_in, counts_in, GivenAnswer};
 
 use crate::answers::{FULL, INVALID, OK};
 use crate::frame::GvFrame;
-use crate::reads::numbers_in;
+use crate::reads::{numbers_in, skip};
 use qs_wire::{Dir, EcnCounts, Frame, StreamId, put, read_varint};
 
 const LIMIT: u64 = 1 << 62;
 
 const MOST_STREAMS: u64 = 1 << 60;
+
+const ACK: u32 = 2;
 
 const HANDSHAKE_DONE: u32 = 20;
 
@@ -31,7 +33,7 @@ pub(crate) fn put_frame(
     let Some(given) = frame_of(frame, bytes, token) else {
         return INVALID;
     };
-    if !fits(&given) {
+    if !fits(&given) || !is_whole(frame.kind, bytes) {
         return INVALID;
     }
     let Ok(written) = put(&given, out) else {
@@ -239,6 +241,14 @@ fn are_ranges(largest: u64, bytes: &[u8]) -> bool
         return false;
     }
     !falls_below_zero(largest, bytes)
+}
+
+/// The last number may be cut short, and then no frame has these bytes.
+fn is_whole(kind: u32, bytes: &[u8]) -> bool
+    ensures yes { result ≡ true → kind ≡ 2 → NumbersText (numbers_of bytes.now) bytes.now }
+    ensures no { result ≡ false → (kind ≡ 2 → NumbersText (numbers_of bytes.now) bytes.now) → ⊥ }
+{
+    kind != ACK || skip(numbers_in(bytes), bytes) == bytes.len()
 }
 
 fn falls_below_zero(largest: u64, numbers: &[u8]) -> bool

@@ -22,8 +22,8 @@ struct Fields {
     bytes: Vec<u8>,
 }
 
-/// The numbers at the front, without the bytes behind them that are none.
-fn whole_numbers(bytes: &[u8]) -> &[u8] {
+/// Each number that the bytes spell is read again from its shortest spelling.
+fn check_numbers(bytes: &[u8]) {
     let mut rest = bytes;
     while let Some((value, len)) = read_varint(rest) {
         let mut shortest = [0; 8];
@@ -34,7 +34,6 @@ fn whole_numbers(bytes: &[u8]) -> &[u8] {
         );
         rest = &rest[len..];
     }
-    &bytes[..bytes.len() - rest.len()]
 }
 
 fn take_fields(w: &mut World<'_>, sender: usize, room: usize) -> Fields {
@@ -65,7 +64,9 @@ fn take_frame_bytes(input: &mut Input<'_>, f: &Fields, sender: usize, room: usiz
     match f.kind {
         2 => {
             let most = input.byte() as usize % 16;
-            whole_numbers(input.bytes(most)).to_vec()
+            let bytes = input.bytes(most);
+            check_numbers(bytes);
+            bytes.to_vec()
         }
         7 => {
             let len = input.size();

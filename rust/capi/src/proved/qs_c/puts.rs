@@ -1,12 +1,14 @@
 // Made from crates/qs_c/src/puts.rt by rust/erase; not edited by hand.
 use crate::proved::qs_c::answers::{FULL, INVALID, OK};
 use crate::proved::qs_c::frame::GvFrame;
-use crate::proved::qs_c::reads::numbers_in;
+use crate::proved::qs_c::reads::{numbers_in, skip};
 use crate::proved::qs_wire::{Dir, EcnCounts, Frame, StreamId, put, read_varint};
 
 const LIMIT: u64 = 1 << 62;
 
 const MOST_STREAMS: u64 = 1 << 60;
+
+const ACK: u32 = 2;
 
 const HANDSHAKE_DONE: u32 = 20;
 
@@ -23,7 +25,7 @@ pub(crate) fn put_frame(
     let Some(given) = frame_of(frame, bytes, token) else {
         return INVALID;
     };
-    if !fits(&given) {
+    if !fits(&given) || !is_whole(frame.kind, bytes) {
         return INVALID;
     }
     let Ok(written) = put(&given, out) else {
@@ -208,6 +210,11 @@ fn are_ranges(largest: u64, bytes: &[u8]) -> bool {
         return false;
     }
     !falls_below_zero(largest, bytes)
+}
+
+/// The last number may be cut short, and then no frame has these bytes.
+fn is_whole(kind: u32, bytes: &[u8]) -> bool {
+    kind != ACK || skip(numbers_in(bytes), bytes) == bytes.len()
 }
 
 fn falls_below_zero(largest: u64, numbers: &[u8]) -> bool {
