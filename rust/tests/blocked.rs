@@ -9,7 +9,7 @@ use gotsavena::{
     CloseKind, Closer, Dir, Endpoint, Event, EventFault, Frame, NotedClose, OpenFault, Received,
     Settings, StreamId, TakeFault, Taken, frames,
 };
-use refusing::{ASKED, IS_CALLED, REFUSED};
+use refusing::refused;
 use support::two_ends;
 
 const STREAM: u64 = 0;
@@ -250,16 +250,6 @@ fn payloads_are_looked_through_where_that_is_chosen() {
         assert!(server.take_frames(&read.expect("frames")).is_ok());
     });
     assert_eq!(news(&mut server), [&came[..], &all_three()].concat());
-}
-
-/// What is answered where this allocation is refused, and whether one was.
-fn refused<T>(which: u64, call: impl FnOnce() -> T) -> (T, bool) {
-    ASKED.set(0);
-    REFUSED.set(which);
-    IS_CALLED.set(true);
-    let answer = call();
-    IS_CALLED.set(false);
-    (answer, ASKED.get() > which)
 }
 
 /// STREAM_DATA_BLOCKED of a stream with limit 400, on the wire and as a frame.

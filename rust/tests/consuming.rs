@@ -5,7 +5,7 @@ mod support;
 
 use gotsavena::{Dir, Read, Settings, UseFault};
 use support::Random;
-use support::pairs::ends_alike;
+use support::pairs::{answer_alike, ends_alike};
 
 // A stream is carried to both ends alike; one consumes it, the other reads it.
 fn carry(seed: u64) {
@@ -50,15 +50,7 @@ fn carry(seed: u64) {
             return;
         }
         // What is granted goes back.
-        let mut back = [[0; 300]; 2];
-        let [one, other] = &mut servers;
-        let made = one.make_packet(&mut back[0]).expect("open");
-        assert_eq!(made, other.make_packet(&mut back[1]).expect("open"));
-        assert_eq!(back[0], back[1]);
-        if let Some(made) = made {
-            let taken = client.receive(made.number, &back[0][..made.len]);
-            assert!(taken.is_ok());
-        }
+        answer_alike(one, other, &mut client);
     }
 }
 

@@ -9,7 +9,7 @@ use gotsavena::{
     Dir, Endpoint, Event, EventFault, OpenFault, Read, Received, RecvState, Role, SendState,
     Settings, StreamId, StreamReport, Tuning, UseFault,
 };
-use refusing::{ASKED, IS_CALLED, REFUSED};
+use refusing::refused;
 use std::collections::BTreeSet;
 use support::{Random, two_ends};
 
@@ -183,16 +183,6 @@ fn a_stream_is_writable_once_a_write_was_cut_short() {
             [Event::ResetAcked(stream), Event::Ended(stream)]
         );
     }
-}
-
-/// What is answered where this allocation is refused, and whether one was.
-fn refused<T>(which: u64, call: impl FnOnce() -> T) -> (T, bool) {
-    ASKED.set(0);
-    REFUSED.set(which);
-    IS_CALLED.set(true);
-    let answer = call();
-    IS_CALLED.set(false);
-    (answer, ASKED.get() > which)
 }
 
 #[test]

@@ -3,7 +3,7 @@
 mod support;
 
 use gotsavena::{Dir, Endpoint, Read, Settings, StreamId, UseFault};
-use support::pairs::ends_alike;
+use support::pairs::{answer_alike, ends_alike};
 use support::{Random, two_ends};
 
 fn alike(one: &Endpoint, other: &Endpoint, stream: StreamId) {
@@ -81,14 +81,7 @@ fn carry(seed: u64) {
             return;
         }
         // What is granted goes back, and the stop.
-        let mut back = [[0; 300]; 2];
-        let made = one.make_packet(&mut back[0]).expect("open");
-        assert_eq!(made, other.make_packet(&mut back[1]).expect("open"));
-        assert_eq!(back[0], back[1]);
-        if let Some(made) = made {
-            let taken = client.receive(made.number, &back[0][..made.len]);
-            assert!(taken.is_ok());
-        }
+        answer_alike(&mut one, &mut other, &mut client);
     }
 }
 

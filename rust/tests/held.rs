@@ -1,34 +1,13 @@
 //! What an end keeps of streams, in bytes that its calls took and haven't given back.
 
+#[path = "support/counting.rs"]
+mod counting;
+
+use counting::LIVE;
 use gotsavena::{Dir, Endpoint, Read, Received, Role, Settings, StreamId};
-use std::alloc::{GlobalAlloc, Layout, System};
-use std::cell::Cell;
-
-/// Counts the bytes that each thread took and that it didn't give back: what the harness does beside a test isn't the test's.
-struct Counting;
-
-thread_local! {
-    static LIVE: Cell<usize> = const { Cell::new(0) };
-}
-
-// Safety: each call is handed on to the system's allocator.
-unsafe impl GlobalAlloc for Counting {
-    unsafe fn alloc(&self, layout: Layout) -> *mut u8 {
-        LIVE.set(LIVE.get().wrapping_add(layout.size()));
-        unsafe { System.alloc(layout) }
-    }
-
-    unsafe fn dealloc(&self, place: *mut u8, layout: Layout) {
-        LIVE.set(LIVE.get().wrapping_sub(layout.size()));
-        unsafe { System.dealloc(place, layout) }
-    }
-}
-
-#[global_allocator]
-static ALLOCATOR: Counting = Counting;
 
 fn live() -> usize {
-    LIVE.get()
+    LIVE.get() as usize
 }
 
 const REQUEST: usize = 1;

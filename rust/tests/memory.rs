@@ -6,7 +6,7 @@ mod refusing;
 mod support;
 
 use gotsavena::{Dir, Endpoint, Fill, Filled, MakeFault, Role, Settings, StreamId};
-use refusing::{ASKED, IS_CALLED, REFUSED};
+use refusing::{asked, refuse, refused, watch, watched};
 use support::{Player, Random};
 
 /// The lines of a script in which much happens. It is made while it is played, as it has to know how many packets there
@@ -59,10 +59,9 @@ struct Played {
 }
 
 fn play(lines: &[String], refused: u64) -> Played {
-    ASKED.set(0);
-    REFUSED.set(refused);
+    refuse(refused);
     let mut player = Player::new(Settings::small());
-    player.around = |begins| IS_CALLED.set(begins);
+    player.around = watch;
     let (mut answers, mut refusals) = (Vec::new(), 0);
     for line in lines {
         let mut answer = player.line(line);
@@ -72,7 +71,7 @@ fn play(lines: &[String], refused: u64) -> Played {
         }
         answers.push(answer);
     }
-    let asked = ASKED.get();
+    let asked = asked();
     answers.push(player.report());
     Played {
         answers,
@@ -142,59 +141,53 @@ fn questions(end: &mut Endpoint, number: u64) {
 }
 
 // How often each of the calls that may ask for memory asked.
-fn counted(lines: &[String], asked: &mut [u64; 5]) {
+fn counted(lines: &[String], counts: &mut [u64; 5]) {
     let mut player = Player::new(Settings::small());
-    player.around = |begins| IS_CALLED.set(begins);
+    player.around = watch;
     for line in lines {
-        ASKED.set(0);
+        refuse(u64::MAX);
         player.line(line);
         let word = line.split(' ').next().expect("a word");
         match TAKING.iter().position(|taking| *taking == word) {
-            Some(place) => asked[place] += ASKED.get(),
-            None => assert_eq!(ASKED.get(), 0, "{line}"),
+            Some(place) => counts[place] += asked(),
+            None => assert_eq!(asked(), 0, "{line}"),
         }
-        ASKED.set(0);
-        IS_CALLED.set(true);
+        refuse(u64::MAX);
+        watched(|| {
+            for end in &mut player.ends {
+                (0..4).for_each(|number| questions(end, number));
+            }
+        });
+        assert_eq!(asked(), 0, "a question behind {line}");
+    }
+    watched(|| {
         for end in &mut player.ends {
-            (0..4).for_each(|number| questions(end, number));
+            let made = end.make_ack(0, &mut [0; 128]);
+            assert!(made.is_ok() && end.claim_number().is_ok());
         }
-        IS_CALLED.set(false);
-        assert_eq!(ASKED.get(), 0, "a question behind {line}");
-    }
-    IS_CALLED.set(true);
-    for end in &mut player.ends {
-        let made = end.make_ack(0, &mut [0; 128]);
-        assert!(made.is_ok() && end.claim_number().is_ok());
-    }
-    IS_CALLED.set(false);
-    assert_eq!(
-        ASKED.get(),
-        0,
-        "an ACK alone, or a number of another packet"
-    );
+    });
+    assert_eq!(asked(), 0, "an ACK alone, or a number of another packet");
 }
 
 #[test]
 fn no_call_asks_but_those_that_are_listed() {
-    REFUSED.set(u64::MAX);
-    ASKED.set(0);
-    IS_CALLED.set(true);
     let settings = Settings::small();
-    let ends =
-        [Role::Client, Role::Server].map(|role| Endpoint::new(role, settings, settings.limits()));
-    IS_CALLED.set(false);
+    refuse(u64::MAX);
+    let ends = watched(|| {
+        [Role::Client, Role::Server].map(|role| Endpoint::new(role, settings, settings.limits()))
+    });
     assert!(ends.iter().all(Result::is_ok));
-    assert_eq!(ASKED.get(), 0, "a new end");
-    let mut asked = [0; 5];
+    assert_eq!(asked(), 0, "a new end");
+    let mut counts = [0; 5];
     for row in SHORT {
         let lines: Vec<String> = row.split(',').map(String::from).collect();
-        counted(&lines, &mut asked);
+        counted(&lines, &mut counts);
     }
     for seed in 0..200 {
-        counted(&script(seed, 300), &mut asked);
+        counted(&script(seed, 300), &mut counts);
     }
-    assert!(asked.iter().all(|count| *count > 0), "{asked:?}");
-    println!("{TAKING:?} asked {asked:?} times");
+    assert!(counts.iter().all(|count| *count > 0), "{counts:?}");
+    println!("{TAKING:?} asked {counts:?} times");
 }
 
 // An end that has bytes to send and no control item.
@@ -210,15 +203,11 @@ fn with_bytes() -> Endpoint {
 fn filled(
     end: &mut Endpoint,
     want: Fill,
-    refused: u64,
+    which: u64,
 ) -> (Result<Option<Filled>, MakeFault>, [u8; 64], bool) {
     let mut out = [0; 64];
-    ASKED.set(0);
-    REFUSED.set(refused);
-    IS_CALLED.set(true);
-    let answer = end.fill(&mut out, &want);
-    IS_CALLED.set(false);
-    (answer, out, ASKED.get() > refused)
+    let (answer, was_refused) = refused(which, || end.fill(&mut out, &want));
+    (answer, out, was_refused)
 }
 
 #[test]
@@ -252,7 +241,7 @@ fn a_fill_without_memory_changes_nothing() {
 #[cfg(feature = "std")]
 mod io {
     use super::support::two_ends;
-    use super::{ASKED, IS_CALLED, REFUSED};
+    use super::{asked, refused};
     use gotsavena::{
         CloseKind, Closer, Dir, Endpoint, Frame, NotedClose, Received, Settings, StreamId, Taken,
     };
@@ -261,15 +250,11 @@ mod io {
     const CLOSE: NotedClose = NotedClose::new(Closer::Us, CloseKind::Application, 7);
 
     // The kind of the error that a call answers, none of whose allocations but this one is refused, and how many it asked for.
-    fn kind_of(refused: u64, call: impl FnOnce() -> io::Result<usize>) -> (ErrorKind, u64) {
-        ASKED.set(0);
-        REFUSED.set(refused);
-        IS_CALLED.set(true);
-        let answer = call();
-        IS_CALLED.set(false);
+    fn kind_of(which: u64, call: impl FnOnce() -> io::Result<usize>) -> (ErrorKind, u64) {
+        let (answer, _) = refused(which, call);
         let error = answer.expect_err("it is refused");
         assert!(error.get_ref().is_none(), "{error}");
-        (error.kind(), ASKED.get())
+        (error.kind(), asked())
     }
 
     fn write(end: &mut Endpoint, stream: StreamId) -> (ErrorKind, u64) {

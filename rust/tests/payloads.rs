@@ -1,13 +1,14 @@
 //! Payloads that no honest peer made: random ones, ones of random frames, and honest ones that were changed. Each ends in
 //! Ok or in a closing that stays; what is stored stays within what was granted, and memory within a bound.
 
+#[path = "support/counting.rs"]
+mod counting;
 mod support;
 
+use counting::LIVE;
 use gotsavena::{
     Dir, Endpoint, Frame, MakeFault, ReceiveFault, Received, Role, Settings, StreamId, put,
 };
-use std::alloc::{GlobalAlloc, Layout, System};
-use std::sync::atomic::{AtomicI64, Ordering};
 use support::{Random, two_ends};
 
 const PAYLOADS: usize = 100_000;
@@ -15,27 +16,6 @@ const PAYLOADS: usize = 100_000;
 /// The most memory that one end may have taken here, in bytes: its windows and its sending buffers of 16 streams, twice,
 /// and as much again for what it keeps of packets.
 const BOUND: i64 = 256 * 1024;
-
-/// Counts the bytes that are taken.
-struct Counting;
-
-static TAKEN: AtomicI64 = AtomicI64::new(0);
-
-// Safety: each call is handed on to the system's allocator.
-unsafe impl GlobalAlloc for Counting {
-    unsafe fn alloc(&self, layout: Layout) -> *mut u8 {
-        TAKEN.fetch_add(layout.size() as i64, Ordering::Relaxed);
-        unsafe { System.alloc(layout) }
-    }
-
-    unsafe fn dealloc(&self, place: *mut u8, layout: Layout) {
-        TAKEN.fetch_sub(layout.size() as i64, Ordering::Relaxed);
-        unsafe { System.dealloc(place, layout) }
-    }
-}
-
-#[global_allocator]
-static ALLOCATOR: Counting = Counting;
 
 // Payloads of an honest peer: what a client makes over a while.
 fn honest_payloads() -> Vec<Vec<u8>> {
@@ -169,13 +149,13 @@ fn hostile_payloads_do_no_harm() {
     let settings = Settings::small();
     let (honest, mut random) = (honest_payloads(), Random::new(1));
     let (mut closings, mut done, mut number, mut most) = (0, 0, 0, 0);
-    let mut before = TAKEN.load(Ordering::Relaxed);
+    let mut before = LIVE.get();
     let mut end = busy_server(settings);
     for _ in 0..PAYLOADS {
         let bytes = payload(&mut random, &honest);
         number += random.below(3);
         let received = end.receive(number, &bytes);
-        most = most.max(TAKEN.load(Ordering::Relaxed) - before - bytes.capacity() as i64);
+        most = most.max(LIVE.get() - before - bytes.capacity() as i64);
         assert!(end.stored() <= end.granted() && end.stored() <= 4096);
         assert!(end.spent() <= end.granted());
         match received {
@@ -184,7 +164,7 @@ fn hostile_payloads_do_no_harm() {
                 stays_closed(&mut end, number, received);
                 drop(bytes);
                 drop(end);
-                before = TAKEN.load(Ordering::Relaxed);
+                before = LIVE.get();
                 end = busy_server(settings);
                 number = 0;
             }

@@ -5,7 +5,7 @@ mod refusing;
 mod support;
 
 use gotsavena::{Dir, Endpoint, Event, Read, Received, Role, Settings, StreamId, Tuning, UseFault};
-use refusing::{ASKED, IS_CALLED, REFUSED};
+use refusing::{asked, refused};
 use support::Random;
 
 fn bounded(window: u64, tuning: Tuning, settings: Settings) -> [Endpoint; 2] {
@@ -26,16 +26,6 @@ fn pass(ends: &mut [Endpoint; 2], from: usize) -> Option<u64> {
 
 fn news(end: &mut Endpoint) -> Vec<Event> {
     std::iter::from_fn(|| end.next_event().expect("there is memory")).collect()
-}
-
-/// What is answered where this allocation is refused, and how many were asked for.
-fn refused<T>(which: u64, call: impl FnOnce() -> T) -> (T, u64) {
-    ASKED.set(0);
-    REFUSED.set(which);
-    IS_CALLED.set(true);
-    let answer = call();
-    IS_CALLED.set(false);
-    (answer, ASKED.get())
 }
 
 #[test]
@@ -81,18 +71,18 @@ fn a_window_that_is_used_up_takes_nothing_and_asks_for_no_memory() {
     assert_eq!(ends[0].write(one, &[1; 10]), Ok(10));
     // A note that the stream waits is all that memory is asked for, and only once.
     assert_eq!(ends[0].write(other, b"x"), Ok(0));
-    assert_eq!(refused(0, || ends[0].write(other, b"x")), (Ok(0), 0));
-    assert_eq!(refused(0, || ends[0].write(other, b"")), (Ok(0), 0));
+    assert_eq!(refused(0, || ends[0].write(other, b"x")), (Ok(0), false));
+    assert_eq!(refused(0, || ends[0].write(other, b"")), (Ok(0), false));
     let (write, _) = refused(0, || ends[0].write(finished, b"x"));
     assert_eq!(write, Err(UseFault::Finished));
     // Each allocation is refused: then nothing is kept.
     let mut ends = bounded(10, Tuning::default(), Settings::small());
     let stream = ends[0].open(Dir::Uni).expect("granted");
     for which in 0.. {
-        let (write, asked) = refused(which, || ends[0].write(stream, &[1; 11]));
+        let (write, _) = refused(which, || ends[0].write(stream, &[1; 11]));
         if write.is_ok() {
             assert_eq!((write, ends[0].kept_sum()), (Ok(10), 10));
-            assert!(asked > 0);
+            assert!(asked() > 0);
             break;
         }
         assert_eq!(write, Err(UseFault::NoMemory));

@@ -6,8 +6,9 @@ mod events;
 mod frames;
 mod input;
 mod looks;
-mod memory;
 mod packets;
+#[path = "../../tests/support/refusing.rs"]
+mod refusing;
 mod seen;
 mod streams;
 mod world;
@@ -15,7 +16,7 @@ mod world;
 use codes::{Code, OK, OUT_OF_RANGE, TOO_MANY_STREAMS};
 use gotsavena::{Endpoint, PeerLimits, Role, Settings, Share, Token, Tuning};
 use input::Input;
-use memory::Memory;
+use refusing::Memory;
 use seen::Seen;
 use world::{Digest, PACKETS, STREAMS, Side, World};
 

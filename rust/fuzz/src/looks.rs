@@ -192,7 +192,7 @@ fn look_at_stream(s: &mut Side, stream: StreamId, all: &mut Sums, hash: &mut u64
 /// Looks at each stream, and returns a hash of all that was seen.
 pub fn look_at_all(s: &mut Side) -> u64 {
     let mut memory = s.memory;
-    let (hash, is_whole, all) = crate::memory::within(&mut memory, || look_at_streams(s));
+    let (hash, is_whole, all) = crate::refusing::within(&mut memory, || look_at_streams(s));
     assert_eq!(memory.asked, s.memory.asked, "a question takes no memory");
     if !is_whole {
         return hash;

@@ -3,7 +3,7 @@
 use crate::codes::{Answer, NO_MEMORY, code};
 use crate::input::Input;
 use crate::looks::look_at_all;
-use crate::memory::{self, Memory};
+use crate::refusing::{Memory, within};
 use crate::seen::Seen;
 use gotsavena::{Closer, Endpoint, Role, StreamId, Token};
 
@@ -114,7 +114,7 @@ impl World<'_> {
 impl Side {
     /// A call of the endpoint, with the memory of its side.
     pub fn call<T>(&mut self, call: impl FnOnce(&mut Endpoint) -> T) -> T {
-        memory::within(&mut self.memory, || call(&mut self.end))
+        within(&mut self.memory, || call(&mut self.end))
     }
 
     /// A call that changes nothing where memory is refused. It is made again then.

@@ -29,6 +29,18 @@ pub fn carry(from: &mut Endpoint, to: &mut Endpoint) -> usize {
     packets
 }
 
+/// Both make the same packet, where one is due, and the client takes it.
+pub fn answer_alike(one: &mut Endpoint, other: &mut Endpoint, client: &mut Endpoint) {
+    let mut payloads = [[0; 300]; 2];
+    let made = one.make_packet(&mut payloads[0]).expect("open");
+    assert_eq!(made, other.make_packet(&mut payloads[1]).expect("open"));
+    assert_eq!(payloads[0], payloads[1]);
+    if let Some(made) = made {
+        let taken = client.receive(made.number, &payloads[0][..made.len]);
+        assert!(taken.is_ok());
+    }
+}
+
 /// All that is due on either side goes across.
 pub fn rest(a: &mut Endpoint, b: &mut Endpoint) {
     while carry(a, b) + carry(b, a) > 0 {}

@@ -6,6 +6,7 @@
 mod proved;
 mod listed;
 mod pieces;
+#[path = "../../../tests/support/refusing.rs"]
 mod refusing;
 #[allow(dead_code, unused_imports, unused_macros)]
 #[path = "../../src/shim/mod.rs"]
