@@ -290,7 +290,7 @@ fn each_stream_is_read_on_a_connection_that_never_rests() {
         "{streams} streams, {} rests, {} of them beside something to send",
         run.rests, run.sends
     );
-    // The run is of every kind.
+    // (far below what this seed gives: it only sees that no kind of stream is missing)
     assert!(run.sends > streams, "{} of {}", run.sends, run.rests);
     assert!(run.resets > streams / 50, "{} resets", run.resets);
     assert!(run.stops > streams / 50, "{} stops", run.stops);

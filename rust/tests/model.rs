@@ -33,7 +33,7 @@ struct Run {
 impl Run {
     fn new(seed: u64) -> Run {
         let mut random = Random::new(seed);
-        // Now and then windows and buffers of some bytes.
+        // So narrow that nearly each write and packet meets a limit; the others meet one now and then.
         let tiny = seed % 16 == 0;
         let (most, most_of_streams, buffer) = if tiny { (4, 4, 64) } else { (4000, 2000, 3000) };
         let window = 1 + random.below(most);

@@ -368,7 +368,7 @@ fn plain_rounds_lead_every_run_to_rest() {
         stops += lanes().filter(|lane| lane.stopped).count();
         refused += run.refused;
     }
-    // The runs are of every kind.
+    // (far below what these seeds give: it only sees that no kind of run is missing)
     assert!(bytes > 100_000, "{bytes} bytes were read");
     assert!(resets > 50, "{resets} streams were reset");
     assert!(stops > 50, "{stops} streams were stopped");
@@ -394,7 +394,7 @@ fn at_rest_bytes_wait_where_an_end_was_told_less_than_its_peer_grants() {
     assert_eq!(client.write(stream, b"hello"), Ok(5));
     rest(&mut client, &mut server);
     assert!(is_idle(&client) && is_idle(&server));
-    // Not all that was written was read, and of the window nothing is left to its sender.
+    // The bytes wait for credit of which the client doesn't know, though its peer granted it.
     assert_eq!(server.read(stream, &mut [0; 8]), Ok(Read::Wait));
     assert_eq!(client.credit_left(), 0);
     assert!(server.granted() > 0);

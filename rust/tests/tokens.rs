@@ -64,7 +64,7 @@ fn a_stream_is_carried_by_frames_and_tokens() {
         }
         let mut payload = [0; 300];
         while let Some((len, token)) = fill(&mut client, &mut payload) {
-            // Each third packet is lost, and each ninth of them is acknowledged late.
+            // A third counts as lost, so that its bytes go again; every ninth of those came nevertheless, and its ACK is late.
             if token.number % 3 == 0 {
                 client.lost(token).expect("made");
             }

@@ -18,7 +18,7 @@ fn a_clone_of_frames_goes_on_where_the_original_stands() {
             let clone = walk.clone();
             assert!(clone.clone().eq(all[given..].iter().copied()));
             assert!(clone.eq(all[given..].iter().copied()));
-            // A clone that goes on by one step and is cloned there.
+            // (a clone of a clone has no place of its own to begin at)
             let mut ahead = walk.clone();
             ahead.next();
             assert_eq!(ahead.clone().collect::<Vec<_>>(), ahead.collect::<Vec<_>>());

@@ -163,7 +163,8 @@ fn a_long_fat_path_is_used_up() {
 
 #[test]
 fn small_steps_need_narrower_windows() {
-    // A seventh more than what is in flight in a round trip takes no longer than twice as much.
+    // A seventh more than what is in flight in a round trip takes no longer than twice as much: 268 ms for the bytes, 2 for the headers of
+    // their frames, and a round trip.
     let took = transfer(14_300_000, Share::Eighth);
     assert!(took <= 370_300_000, "{took} nanoseconds");
     assert!(transfer(25_000_000, Share::Half) >= 370_200_000);

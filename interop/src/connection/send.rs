@@ -39,7 +39,7 @@ impl Connection {
         if let (Some(trace), Some(end)) = (&mut self.trace, &self.end) {
             trace.moves(end, now);
         }
-        // What came was read since then.
+        // (what came was read since the datagram before, so windows may grow, and this one tells it)
         if let Some(end) = &mut self.end {
             self.windows.look(end, self.recovery.smoothed(), now);
         }

@@ -392,12 +392,12 @@ fn send_on(settings: Settings, step: u64, count: u64) -> Option<u64> {
 
 #[test]
 fn gaps_on_a_stream_that_was_stopped_close_in_the_end() {
-    // A window of 1 MiB, and eight streams of each kind.
+    // Two for each of the 16 halves that may receive, and a thousandth of the window of 1 MiB.
     let enough = 16_384 + 2 * 16 + 1_048;
     assert_eq!(send_on(small(), 1, 4 * enough), None);
     // The bytes before make the first run one with the first packet's; and the packet behind the first too many is refused.
     assert_eq!(send_on(small(), 2, 4 * enough), Some(enough + 1));
-    // Of a wide window no more counts than so much.
+    // Of a wide window 2^18 counts at most.
     let enough = 16_384 + 2 * 16 + (1 << 18);
     let wide = small().conn_window(1 << 40);
     assert_eq!(send_on(wide, 2, 4 * enough), Some(enough + 1));
