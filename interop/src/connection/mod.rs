@@ -8,6 +8,7 @@ mod ending;
 mod frames;
 mod handshake;
 mod moving;
+pub mod probing;
 mod receive;
 mod send;
 #[cfg(test)]
@@ -117,6 +118,7 @@ pub struct Connection {
     state: State,
     outcome: Option<Outcome>,
     trace: Option<Trace>,
+    heard: Option<probing::Heard>,
 }
 
 // Around to the lowest, so that no stream waits for ever.
@@ -210,6 +212,7 @@ impl Connection {
             state: State::Open,
             outcome: None,
             trace: Trace::begin(role, destination, now),
+            heard: None,
         }
     }
 

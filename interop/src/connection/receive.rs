@@ -134,6 +134,7 @@ impl Connection {
         payload: &[u8],
         now: Instant,
     ) -> Result<(), Fault> {
+        super::probing::note(&mut self.heard, number, payload);
         let Some(end) = &mut self.end else {
             return Ok(());
         };
