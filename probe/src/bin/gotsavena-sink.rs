@@ -1,0 +1,85 @@
+//! gotsavena-sink [--cert FILE --key FILE] ADDR: over our streams what each sink of `peers/` does. It reads and drops every stream,
+//! answers "ok" on each bidirectional one that ends, and opens one stream of either direction with "hi". Its windows are 8,192 bytes a
+//! stream and 20,000 in all, for 16 streams of either direction.
+
+use gotsavena::{Dir, Endpoint, Read, Settings, StreamId, Tuning};
+use gotsavena_interop::connection::Config;
+use gotsavena_interop::fault::Close;
+use gotsavena_interop::program::{self, Refusal, Words, listen};
+use gotsavena_interop::server::Server;
+use gotsavena_interop::stop::Stop;
+use gotsavena_interop::streams::{Application, abandon};
+use gotsavena_interop::tls::server_config;
+use std::process::ExitCode;
+use std::time::Duration;
+
+/// The code with which a stream's answer is given up.
+const GIVEN_UP: u64 = 9;
+
+#[derive(Default)]
+struct Sink {
+    has_begun: bool,
+}
+
+impl Application for Sink {
+    const NO_ERROR: u64 = 0;
+
+    fn progress(&mut self, end: &mut Endpoint) -> Result<(), Close> {
+        if !self.has_begun {
+            self.has_begun = true;
+            for dir in [Dir::Uni, Dir::Bidi] {
+                if let Ok(stream) = end.open(dir) {
+                    _ = end.write(stream, b"hi");
+                }
+            }
+        }
+        let mut from = StreamId::new(0);
+        while let Some(stream) = from.and_then(|from| end.next_readable(from)) {
+            drain(end, stream);
+            from = stream.next();
+        }
+        Ok(())
+    }
+}
+
+fn drain(end: &mut Endpoint, stream: StreamId) {
+    let mut buffer = [0; 4096];
+    loop {
+        match end.read(stream, &mut buffer) {
+            Ok(Read::Bytes(_)) => continue,
+            Ok(Read::End) if stream.dir() == Dir::Bidi => {
+                _ = end.write(stream, b"ok");
+                _ = end.finish(stream);
+            }
+            Ok(Read::Reset(_)) if stream.dir() == Dir::Bidi => {
+                _ = abandon(end, stream, GIVEN_UP);
+            }
+            _ => {}
+        }
+        return;
+    }
+}
+
+fn main() -> ExitCode {
+    program::run("gotsavena-sink [--cert FILE --key FILE] ADDR", serve)
+}
+
+fn serve(mut words: Words) -> Result<(), Refusal> {
+    let identity = words.identity()?;
+    let [address] = words.exactly()?;
+    let settings = Settings::default()
+        .conn_window(20_000)
+        .stream_windows(8192)
+        .streams(16, 1 << 21);
+    let config = Config {
+        settings,
+        tuning: Tuning::default(),
+        most_window: 0,
+        idle: Duration::from_secs(30),
+    };
+    let tls = server_config(identity, &[b"gotsavena-raw"])?;
+    let socket = listen(&address)?;
+    let stop = Stop::by_signals(std::slice::from_ref(&socket)).map_err(Refusal::failure)?;
+    let mut server = Server::new(socket, tls, config, |_| Sink::default());
+    server.run(&stop).map_err(Refusal::failure)
+}
