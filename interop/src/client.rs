@@ -1,6 +1,6 @@
 //! A client: one connection on a socket of its own.
 
-use crate::connection::Connection;
+use crate::connection::{Connection, Path};
 use crate::fault::{Close, Outcome};
 use crate::program::{Refusal, tell_more};
 use crate::server::{receive_batch, turn};
@@ -104,11 +104,11 @@ pub fn connect_often(
 
 fn go_on(socket: &UdpSocket, connection: &mut Connection) -> io::Result<()> {
     let now = Instant::now();
-    turn(connection, &mut Nothing, &mut Vec::new(), |bytes| {
+    turn(connection, &mut Nothing, &mut Vec::new(), |bytes, _| {
         _ = socket.send(bytes);
     });
     receive_batch(socket, Some(now), |datagram, _| {
-        connection.receive(datagram, now);
+        connection.receive(datagram, Path::default(), now);
     })?;
     if connection.timer(now).is_some_and(|at| at <= now) {
         connection.time_is_up(now);
@@ -193,7 +193,7 @@ fn run_until<A: Application>(
     let mut out = Vec::new();
     loop {
         let mut is_refused = false;
-        let more = turn(connection, application, &mut out, |bytes| {
+        let more = turn(connection, application, &mut out, |bytes, _| {
             is_refused |= is_refusal(&socket.send(bytes));
         });
         if let (Some(outcome), false) = (connection.outcome(), more) {
@@ -207,7 +207,7 @@ fn run_until<A: Application>(
         let timers = connection.timer(now).into_iter().chain(patient_until);
         let until = timers.chain(more.then_some(now)).min();
         is_refused |= receive_batch(socket, until, |datagram, _from| {
-            connection.receive(datagram, Instant::now());
+            connection.receive(datagram, Path::default(), Instant::now());
         })?;
         // A server that answered before has a port: then only its silence tells that it is gone.
         if is_refused && !connection.has_peer() {

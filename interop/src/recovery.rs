@@ -15,14 +15,14 @@ const GRANULARITY: Duration = Duration::from_millis(1);
 /// Only then much goes, and a larger datagram is worth a lost probe.
 const BUSY: usize = 3;
 const FIRST_ROUND_TRIP: Duration = Duration::from_millis(333);
+/// Where no round trip was measured.
+pub const FIRST_PROBE_TIMEOUT: Duration = Duration::from_millis(999);
 
 /// What of the transport's own goes again if its packet is lost.
 #[derive(Clone, Debug, PartialEq, Eq)]
 pub enum Control {
     HandshakeDone,
     RetireId(u64),
-    PathResponse([u8; 8]),
-    PathChallenge([u8; 8]),
     NewId {
         sequence: u64,
         id: ConnectionId,

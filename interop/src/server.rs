@@ -1,6 +1,6 @@
 //! A server: many connections on one socket.
 
-use crate::connection::{Config, Connection, DATAGRAM};
+use crate::connection::{Config, Connection, DATAGRAM, Path};
 use crate::fault::{Close, Fault, INTERNAL_ERROR, Outcome};
 use crate::log;
 use crate::memory;
@@ -116,7 +116,7 @@ pub fn turn<A: Application>(
     connection: &mut Connection,
     application: &mut A,
     out: &mut Vec<u8>,
-    mut transmit: impl FnMut(&[u8]),
+    mut transmit: impl FnMut(&[u8], Path),
 ) -> bool {
     let now = Instant::now();
     if let Some(end) = connection.end()
@@ -126,10 +126,10 @@ pub fn turn<A: Application>(
     }
     application.prioritize(connection.priorities());
     for _ in 0..BATCH {
-        if !connection.send(out, now) {
+        let Some(to) = connection.send(out, now) else {
             return false;
-        }
-        transmit(out);
+        };
+        transmit(out, to);
     }
     true
 }
@@ -187,14 +187,12 @@ impl<A: Application> Served<A> {
     }
 
     fn take(&mut self, datagram: &mut [u8], from: SocketAddr) {
-        let is_there = self.connection.receive(datagram, Instant::now());
-        if is_there && self.peer != from {
-            let is_other_host = self.peer.ip() != from.ip();
-            if let Err(fault) = self.connection.follow(datagram.len(), is_other_host) {
-                return log::tell(fault);
-            }
-            program::tell_more(&format!("{} goes on as {from}", self.peer));
-            self.peer = from;
+        self.connection
+            .receive(datagram, Path { peer: from }, Instant::now());
+        let peer = self.connection.path().peer;
+        if self.peer != peer {
+            program::tell_more(&format!("{} goes on as {peer}", self.peer));
+            self.peer = peer;
         }
     }
 
@@ -202,8 +200,8 @@ impl<A: Application> Served<A> {
     fn go_on(&mut self, phase: Phase, socket: &UdpSocket, out: &mut Vec<u8>) -> bool {
         let connection = &mut self.connection;
         part(phase, connection, &mut self.application);
-        let more = turn(connection, &mut self.application, out, |bytes| {
-            _ = socket.send_to(bytes, self.peer);
+        let more = turn(connection, &mut self.application, out, |bytes, to| {
+            _ = socket.send_to(bytes, to.peer);
         });
         if let (Some(outcome), false) = (connection.outcome(), self.was_told) {
             self.was_told = true;
@@ -356,7 +354,8 @@ impl<A: Application> Server<A> {
         let mut connection = Connection::server(tls, self.config, destination, source, now)
             .inspect_err(|fault| log::tell(format_args!("no connection: {fault}")))
             .ok()?;
-        apart(from, || connection.receive(datagram, now))?;
+        let path = Path { peer: from };
+        apart(from, || connection.receive(datagram, path, now))?;
         if !connection.has_peer() {
             return None;
         }
@@ -480,7 +479,7 @@ mod tests {
         fn step<A: Application>(&mut self, client: &mut Client<A>) {
             let connection = &mut client.connection;
             let mut out = Vec::new();
-            let transmit = |bytes: &[u8]| {
+            let transmit = |bytes: &[u8], _| {
                 client.sent += 1;
                 client.socket.send(bytes).unwrap();
             };
@@ -488,7 +487,7 @@ mod tests {
             let now = Some(Instant::now());
             self.server.turn(now, &mut out).unwrap();
             let take = |datagram: &mut [u8], _| {
-                connection.receive(datagram, Instant::now());
+                connection.receive(datagram, Path::default(), Instant::now());
             };
             receive_batch(&client.socket, now, take).unwrap();
             let now = Instant::now();
@@ -585,7 +584,8 @@ mod tests {
         (0..20).for_each(|_| world.step(&mut client));
         world.server.stop(&mut Vec::new()).unwrap();
         let take = |datagram: &mut [u8], _| {
-            client.connection.receive(datagram, Instant::now());
+            let connection = &mut client.connection;
+            connection.receive(datagram, Path::default(), Instant::now());
         };
         receive_batch(&client.socket, Some(Instant::now()), take).unwrap();
         let told = Outcome::PeerClosed {

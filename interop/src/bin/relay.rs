@@ -3,7 +3,7 @@
 //! What a share is in a hundred: `--drop` of both ways, `--drop-up` to the server and `--drop-down` from it, `--repeat`,
 //! `--reorder`: a datagram that is held back goes behind the next one of its way, or after 20 ms. `--delay MS`: each way takes so
 //! long, and keeps its order. `--rebind N`: from the Nth datagram of a client on the server sees it at another address, as behind a NAT
-//! that forgot it.
+//! that forgot it; with `--dead MS` what goes in so many milliseconds behind that datagram is lost, either way.
 
 use gotsavena_interop::program::{self, Refusal, Words, address, listen};
 use std::collections::HashMap;
@@ -11,8 +11,8 @@ use std::collections::hash_map::Entry;
 use std::io::{self, ErrorKind};
 use std::net::{SocketAddr, UdpSocket};
 use std::process::ExitCode;
-use std::sync::Arc;
 use std::sync::mpsc::{self, Sender};
+use std::sync::{Arc, Mutex};
 use std::thread;
 use std::time::{Duration, Instant};
 
@@ -51,7 +51,7 @@ enum Exit {
 }
 
 fn main() -> ExitCode {
-    let usage = "relay [--seed N] [--drop P] [--drop-up P] [--drop-down P] [--repeat P] [--reorder P] [--delay MS] [--rebind N] ADDR SERVER";
+    let usage = "relay [--seed N] [--drop P] [--drop-up P] [--drop-down P] [--repeat P] [--reorder P] [--delay MS] [--rebind N] [--dead MS] ADDR SERVER";
     program::run(usage, relay)
 }
 
@@ -73,7 +73,7 @@ fn relay(mut words: Words) -> Result<(), Refusal> {
             "a way takes at most {MOST_DELAY} ms"
         )));
     }
-    let rebind = words.number("rebind", 0)?;
+    let (rebind, dead) = (words.number("rebind", 0)?, words.number("dead", 0)?);
     let [own, server] = words.exactly()?;
     let server = address(&server)?;
     let socket = Arc::new(listen(&own)?);
@@ -91,6 +91,7 @@ fn relay(mut words: Words) -> Result<(), Refusal> {
         down,
         seed,
         rebind,
+        dead: Duration::from_millis(dead),
     };
     relay.run().map_err(Refusal::failure)
 }
@@ -103,11 +104,30 @@ struct Relay {
     seed: u64,
     /// After so many datagrams of a client its way to the server has another address.
     rebind: u64,
+    dead: Duration,
 }
 
 struct Client {
     way: Way,
     came: u64,
+    silence: Silence,
+}
+
+/// Until when nothing of a client goes, either way.
+#[derive(Clone, Default)]
+struct Silence(Arc<Mutex<Option<Instant>>>);
+
+impl Silence {
+    fn begin(&self, time: Duration) {
+        *self.0.lock().unwrap() = Some(Instant::now() + time);
+    }
+
+    fn is_over(&self) -> bool {
+        self.0
+            .lock()
+            .unwrap()
+            .is_none_or(|end| end <= Instant::now())
+    }
 }
 
 impl Relay {
@@ -127,31 +147,45 @@ impl Relay {
             let seed = self.seed ^ (2 * clients.len() as u64) << 32;
             let client = match clients.entry(from) {
                 Entry::Occupied(known) => known.into_mut(),
-                Entry::Vacant(place) => place.insert(Client {
-                    way: Way::new(self.up, seed, self.open(from, seed)?),
-                    came: 0,
-                }),
+                Entry::Vacant(place) => {
+                    let silence = Silence::default();
+                    place.insert(Client {
+                        way: Way::new(self.up, seed, self.open(from, seed, &silence)?),
+                        came: 0,
+                        silence,
+                    })
+                }
             };
             client.came += 1;
-            if client.came == self.rebind {
-                client.way.exit = self.open(from, seed)?;
+            let moves = client.came == self.rebind;
+            if moves {
+                client.way.exit = self.open(from, seed, &client.silence)?;
             }
             client.way.carry(&buffer[..len]);
+            if moves {
+                client.silence.begin(self.dead);
+            }
         }
     }
 
     // A socket to the server, with a thread for the way back to a client.
-    fn open(&self, client: SocketAddr, seed: u64) -> io::Result<Exit> {
+    fn open(&self, client: SocketAddr, seed: u64, silence: &Silence) -> io::Result<Exit> {
         let to_server = UdpSocket::bind("127.0.0.1:0")?;
         to_server.connect(self.server)?;
         let (own, to_client) = (to_server.try_clone()?, self.socket.clone());
+        let down = silence.clone();
         let exit = Exit::new(self.down.delay, move |bytes| {
-            _ = to_client.send_to(bytes, client);
+            if down.is_over() {
+                _ = to_client.send_to(bytes, client);
+            }
         });
         let back = Way::new(self.down, seed ^ 1 << 32, exit);
         thread::spawn(move || bring_back(&own, back));
+        let up = silence.clone();
         Ok(Exit::new(self.up.delay, move |bytes| {
-            _ = to_server.send(bytes);
+            if up.is_over() {
+                _ = to_server.send(bytes);
+            }
         }))
     }
 }
@@ -311,6 +345,7 @@ mod tests {
             down: weather,
             seed: 1,
             rebind: 0,
+            dead: Duration::ZERO,
         };
         let between = relay.socket.local_addr().unwrap();
         thread::spawn(move || relay.run());

@@ -30,7 +30,8 @@ impl Connection {
         match self.state {
             State::Open => {
                 let recovery = self.recovery.timer(self.standing(), now);
-                recovery.into_iter().chain(self.idle_until()).min()
+                let times = recovery.into_iter().chain(self.idle_until());
+                times.chain(self.moving.timer()).min()
             }
             State::Closing { until, .. } | State::Draining { until } => Some(until),
             State::Gone => None,
@@ -53,6 +54,7 @@ impl Connection {
             self.state = State::Gone;
             return;
         }
+        self.give_way_up(now);
         match self.recovery.time_is_up(self.standing(), now) {
             Some(Due::Lost(level, lost)) => {
                 self.tell_lost(level, &lost, now);

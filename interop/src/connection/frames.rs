@@ -141,10 +141,8 @@ impl Connection {
             Frame::Stream { stream, .. } => self.windows.came(stream, now),
             Frame::Crypto { offset, bytes } => self.take_crypto(Level::Data, offset, bytes)?,
             Frame::NewConnectionId { .. } => self.take_new_id(frame)?,
-            Frame::PathChallenge { bytes } => {
-                self.control(Control::PathResponse(bytes.try_into().unwrap_or_default()));
-            }
-            Frame::PathResponse { bytes } => self.take_path_response(bytes),
+            Frame::PathChallenge { bytes } => self.take_challenge(bytes),
+            Frame::PathResponse { bytes } => self.take_path_response(bytes, now),
             Frame::RetireConnectionId { sequence } => self.take_retired(sequence)?,
             Frame::HandshakeDone if !self.known.is_confirmed => self.confirm(),
             Frame::ConnectionClose { code, reason, .. } => {

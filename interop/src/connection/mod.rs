@@ -37,6 +37,7 @@ use std::sync::Arc;
 use std::time::{Duration, Instant};
 
 pub use crate::path_size::DATAGRAM;
+pub use moving::Path;
 
 /// How late an ACK is at the most (RFC 9000, section 13.2.1). One is due with each packet: it waits for the loop's turn alone.
 const MAX_ACK_DELAY: Duration = Duration::from_millis(5);
@@ -266,6 +267,14 @@ impl Connection {
         &mut self.spaces[level as usize]
     }
 
+    /// How much may go for now: three times what came, until the address is validated (RFC 9000, section 8).
+    fn bound(&self) -> usize {
+        match self.known.is_validated {
+            true => usize::MAX,
+            false => (3 * self.bytes_in).saturating_sub(self.bytes_out),
+        }
+    }
+
     fn standing(&self) -> Standing {
         Standing {
             has_handshake_keys: self.spaces[Level::Handshake as usize].keys.is_some(),
@@ -273,7 +282,7 @@ impl Connection {
             peer_validated: self.role == Role::Server
                 || self.known.is_handshake_acked
                 || self.known.is_confirmed,
-            is_held_back: !self.known.is_validated && self.bytes_out + DATAGRAM > 3 * self.bytes_in,
+            is_held_back: self.bound() < DATAGRAM,
         }
     }
 }

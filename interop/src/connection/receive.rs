@@ -1,6 +1,6 @@
 //! Datagrams come (RFC 9000, section 12.2).
 
-use super::moving::is_probing;
+use super::moving::{Path, is_probing};
 use super::{Connection, MOST_EARLY, State};
 use crate::fault::{Fault, INTERNAL_ERROR, Outcome, PROTOCOL_VIOLATION};
 use crate::packet::{Kind, Level, Packet, VERSION_1, read_packet};
@@ -14,16 +14,19 @@ use std::time::Instant;
 const TOKEN_LEN: usize = 16;
 
 impl Connection {
-    /// Takes a datagram in. It is opened in place. Answers whether the peer is where it came from: a packet of it is the newest, and does
-    /// more than to look whether the address is there (RFC 9000, section 9.3).
-    pub fn receive(&mut self, datagram: &mut [u8], now: Instant) -> bool {
+    /// Takes a datagram in. It is opened in place. Where a packet of it is the newest, and does more than to look whether the address is
+    /// there, the peer is where it came from (RFC 9000, section 9.3).
+    pub fn receive(&mut self, datagram: &mut [u8], from: Path, now: Instant) {
         let newest = self.moving.newest;
+        self.comes(from, datagram.len());
         self.take_datagram(datagram, now);
-        self.moving.newest > newest
+        if self.moving.newest > newest && matches!(self.state, State::Open) {
+            let followed = self.follow(from, datagram.len(), now);
+            followed.unwrap_or_else(|fault| self.fail(fault, now));
+        }
     }
 
     fn take_datagram(&mut self, datagram: &mut [u8], now: Instant) {
-        self.bytes_in += datagram.len();
         match self.state {
             State::Open => {}
             State::Closing { .. } => return self.answer_closing(),

@@ -1,5 +1,6 @@
 //! Datagrams go: packets of several levels in one (RFC 9000, section 12.2).
 
+use super::moving::{Path, QUESTIONS};
 use super::{Connection, DATAGRAM, State, stream_behind};
 use crate::crypto::push_frame;
 use crate::fault::{Fault, INTERNAL_ERROR};
@@ -30,12 +31,21 @@ struct OwnFrames {
 }
 
 impl Connection {
-    /// Makes the next datagram, in a vector that is empty. Answers whether there is one.
-    pub fn send(&mut self, out: &mut Vec<u8>, now: Instant) -> bool {
+    /// Makes the next datagram, in a vector that is empty. Answers where it goes to, where there is one.
+    pub fn send(&mut self, out: &mut Vec<u8>, now: Instant) -> Option<Path> {
         out.clear();
-        if self.standing().is_held_back {
-            return self.send_challenge(out, now);
+        let is_open = matches!(self.state, State::Open);
+        if let Some(to) = is_open.then(|| self.send_of_paths(out, now)).flatten() {
+            return Some(to);
         }
+        let is_sent = match self.standing().is_held_back {
+            true => is_open && self.acknowledge_within_bound(out, now),
+            false => self.send_usual(out, now),
+        };
+        is_sent.then_some(self.moving.at)
+    }
+
+    fn send_usual(&mut self, out: &mut Vec<u8>, now: Instant) -> bool {
         if let (Some(trace), Some(end)) = (&mut self.trace, &self.end) {
             trace.moves(end, now);
         }
@@ -133,7 +143,7 @@ impl Connection {
 
     /// What is in the datagram already counts, as it may hold packets of several levels.
     fn room(&self, header: &Header<'_>, out: &[u8]) -> usize {
-        let size = self.recovery.path.size();
+        let size = self.recovery.path.size().min(self.bound());
         size.saturating_sub(out.len() + header.len() + TAG_LEN)
     }
 
@@ -242,13 +252,29 @@ impl Connection {
         }
         self.space(Level::Data).probes = probes.saturating_sub(1);
         draft.finish(out);
-        // So that the path is known to carry as much (RFC 9000, section 8.2.1).
-        let is_challenge = |control: &Control| matches!(control, Control::PathChallenge(_));
-        if own.controls.iter().any(is_challenge) {
-            draft.pad(out, DATAGRAM);
-        }
         let sent = sent_now(now, asks, own.crypto, own.controls);
         Ok(Some(Planned { draft, sent }))
+    }
+
+    // To an address that isn't validated an ACK goes as long as questions have room, too.
+    fn acknowledge_within_bound(&mut self, out: &mut Vec<u8>, now: Instant) -> bool {
+        let Some(end) = self.end.as_ref().filter(|_| self.session.is_done()) else {
+            return false;
+        };
+        let header = self.header(Level::Data, end.next_number());
+        if header.len() + MIN_ROOM + TAG_LEN + QUESTIONS > self.bound() {
+            return false;
+        }
+        let draft = header.write(out);
+        match self.acknowledge(draft, MIN_ROOM, out, now) {
+            Ok(Some(planned)) => self.finish(vec![planned], out),
+            Ok(None) => return false,
+            Err(fault) => {
+                self.fail(fault, now);
+                return false;
+            }
+        }
+        true
     }
 
     // Where the window is full an ACK goes nevertheless, alone, if one is due (RFC 9002, section 7).
@@ -316,10 +342,7 @@ impl Connection {
             && let Some(control) = self.controls.pop_front()
         {
             push_frame(&mut own.payload, &frame_of(&control));
-            // A response isn't sent again: the peer asks anew (RFC 9000, section 13.3).
-            if !matches!(control, Control::PathResponse(_)) {
-                own.controls.push(control);
-            }
+            own.controls.push(control);
         }
         let left = room.saturating_sub(own.payload.len());
         let put = self.space(Level::Data).out.put(&mut own.payload, left);
@@ -374,8 +397,6 @@ fn frame_of(control: &Control) -> Frame<'_> {
         Control::RetireId(sequence) => Frame::RetireConnectionId {
             sequence: *sequence,
         },
-        Control::PathResponse(bytes) => Frame::PathResponse { bytes },
-        Control::PathChallenge(bytes) => Frame::PathChallenge { bytes },
         Control::NewId {
             sequence,
             id,

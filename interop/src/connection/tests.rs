@@ -1,6 +1,6 @@
 //! Two connections, with the network and the clock of the test between them.
 
-use super::{ClientSetup, Config, Connection};
+use super::{ClientSetup, Config, Connection, Path};
 use crate::certificate::Identity;
 use crate::fault::{Close, Fault, Outcome, PROTOCOL_VIOLATION};
 use crate::packet::{VERSION_1, read_packet};
@@ -8,6 +8,7 @@ use crate::tls::{client_config, server_config};
 use crate::windows::Windows;
 use gotsavena::{Dir, Frame, Read, Role, Settings, StreamId, Tuning, put};
 use std::collections::VecDeque;
+use std::net::SocketAddr;
 use std::time::{Duration, Instant};
 
 const PROTOCOL: &[&[u8]] = &[b"test"];
@@ -22,6 +23,12 @@ struct World {
     lost: u64,
     random: u64,
     one_way: Duration,
+    from: Path,
+}
+
+fn path(port: u16) -> Path {
+    let peer = SocketAddr::from(([192, 0, 2, 1], port));
+    Path { peer }
 }
 
 impl World {
@@ -66,6 +73,7 @@ impl World {
             lost,
             random: 0x2545_f491_4f6c_dd1d ^ lost,
             one_way: ONE_WAY,
+            from: path(1),
         }
     }
 
@@ -77,8 +85,12 @@ impl World {
         let mut out = Vec::new();
         for place in 0..2 {
             while let Some(end) = &mut self.ends[place]
-                && end.send(&mut out, self.now)
+                && let Some(to) = end.send(&mut out, self.now)
             {
+                // The client is at one address alone.
+                if place == 1 && to != self.from {
+                    continue;
+                }
                 // xorshift64*
                 self.random ^= self.random >> 12;
                 self.random ^= self.random << 25;
@@ -130,7 +142,8 @@ impl World {
             self.ends[place] = Some(server.unwrap());
         }
         let now = self.now;
-        self.end(place).receive(datagram, now);
+        let from = self.from;
+        self.end(place).receive(datagram, from, now);
     }
 
     fn until(&mut self, what: impl Fn(&mut World) -> bool) {
@@ -248,7 +261,7 @@ fn a_server_sends_little_to_an_address_that_is_not_validated() {
     let mut world = World::new(0, Duration::from_secs(5));
     let mut out = Vec::new();
     let now = world.now;
-    assert!(world.end(0).send(&mut out, now));
+    assert!(world.end(0).send(&mut out, now).is_some());
     let came = out.len();
     world.deliver(1, &mut out);
     let mut sent = 0;
@@ -256,7 +269,7 @@ fn a_server_sends_little_to_an_address_that_is_not_validated() {
     world.ends[0] = None;
     for _ in 0..100 {
         let now = world.now;
-        while world.end(1).send(&mut out, now) {
+        while world.end(1).send(&mut out, now).is_some() {
             sent += out.len();
         }
         let Some(at) = world.end(1).timer(now) else {
@@ -279,18 +292,73 @@ fn little_goes_to_an_address_to_which_a_client_moved_until_it_answers() {
     let server = world.end(1);
     let stream = server.end().unwrap().open(Dir::Uni).unwrap();
     server.end().unwrap().write(stream, &[7; 10_000]).unwrap();
-    server.follow(50, true).unwrap();
+    server.follow(path(2), 50, now).unwrap();
     let mut datagrams = Vec::new();
-    while server.send(&mut out, now) {
-        sent += out.len();
-        datagrams.push(out.clone());
+    while let Some(to) = server.send(&mut out, now) {
+        if to == path(2) {
+            sent += out.len();
+            datagrams.push(out.clone());
+        }
     }
-    // Three times what came (RFC 9000, section 8), and what asks for an answer.
+    // Three times what came (RFC 9000, section 8), beside what asks at the old address.
     assert!((1..=150).contains(&sent), "{sent}");
+    world.from = path(2);
     datagrams
         .iter_mut()
         .for_each(|datagram| world.deliver(0, datagram));
     exchange(&mut world, 100_000);
+}
+
+#[test]
+fn a_question_whose_answer_is_lost_is_asked_again() {
+    let mut world = World::new(0, Duration::from_secs(5));
+    world.connect();
+    exchange(&mut world, 10_000);
+    let (begin, mut out) = (world.now, Vec::new());
+    world.from = path(2);
+    world.end(1).follow(path(2), 50, begin).unwrap();
+    while world.end(1).send(&mut out, begin).is_some() {}
+    exchange(&mut world, 100_000);
+    let server = world.end(1);
+    assert!(server.known.is_validated && server.path() == path(2));
+    assert!(world.now - begin < Duration::from_millis(500));
+}
+
+#[test]
+fn a_server_goes_back_where_no_answer_comes() {
+    let mut world = World::new(0, Duration::from_secs(5));
+    world.connect();
+    exchange(&mut world, 10_000);
+    let begin = world.now;
+    world.end(1).follow(path(2), 50, begin).unwrap();
+    // The client says nothing, and is nowhere.
+    world.ways = Default::default();
+    let client = world.ends[0].take();
+    world.from = path(9);
+    world.until(|world| world.end(1).path() == path(1));
+    world.ends[0] = client;
+    // Three times the first probe timeout (RFC 9000, section 8.2.4; RFC 9002, section 6.2.2): 333 ms and four times the half of it.
+    assert_eq!((world.now - begin).as_millis(), 3 * (333 + 4 * 333 / 2));
+    world.from = path(1);
+    exchange(&mut world, 100_000);
+}
+
+#[test]
+fn an_answer_goes_where_its_question_came_from() {
+    let mut world = World::new(0, Duration::from_secs(5));
+    world.connect();
+    exchange(&mut world, 10_000);
+    let (now, mut out) = (world.now, Vec::new());
+    let server = world.end(1);
+    while server.send(&mut out, now).is_some() {}
+    // (RFC 9000, section 8.2.2: in 1,200 bytes, where these are at most three times as many as came)
+    for (came, wanted) in [(400, 1200..=1200), (399, 1..=100)] {
+        server.comes(path(3), came);
+        server.take_challenge(&[7; 8]);
+        assert_eq!(server.send(&mut out, now), Some(path(3)));
+        assert!(wanted.contains(&out.len()), "{}", out.len());
+    }
+    assert_eq!((server.path(), server.send(&mut out, now)), (path(1), None));
 }
 
 #[test]
@@ -380,7 +448,7 @@ fn send_on(settings: Settings, step: u64, count: u64) -> Option<u64> {
     let (now, mut out) = (world.now, Vec::new());
     let server = world.end(1);
     server.end().unwrap().stop(stream, 7).unwrap();
-    while server.send(&mut out, now) {}
+    while server.send(&mut out, now).is_some() {}
     (0..count).find(|place| {
         let taken = comes(server, stream, 5 + step * place, b"x", now);
         taken.is_err_and(|fault| {
