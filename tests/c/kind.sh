@@ -73,7 +73,10 @@ inputs=("$root/c/fuzz/inputs.txt" "$root/c/fuzz/by_hand.txt")
 plays_inputs() { timeout 300 "$room/replay" "${inputs[@]}" >"$room/replayed"; }
 try 'the inputs of c/fuzz' plays_inputs
 if "$root/c/has-cargo" >/dev/null 2>&1; then
-  answers_as_rust() { cargo run -q --offline --manifest-path "$root/rust/Cargo.toml" -p gotsavena-fuzz -- "${inputs[@]}" | cmp - "$room/replayed"; }
+  answers_as_rust() {
+    [ -e "$work/answers" ] || cargo run -q --offline --manifest-path "$root/rust/Cargo.toml" -p gotsavena-fuzz -- "${inputs[@]}" >"$work/answers" || return 1
+    cmp "$work/answers" "$room/replayed"
+  }
   try 'the answers to them are those of the Rust crate' answers_as_rust
 else
   echo 'skipped: the answers of the Rust crate (no cargo)'
