@@ -423,7 +423,7 @@ pub fn put_ack(
     let Some(pairs) = pairs.get_mut(..ranges.len()) else {
         return Err(PutFault::Invalid);
     };
-    // Half-open, as the proved writer has them.
+    // Half-open, as the proved writer has them: the first may end at MAX_VARINT + 1, and each leaves a gap below the one before.
     let mut above = MAX_VARINT + 2;
     for (pair, &(lowest, highest)) in pairs.iter_mut().zip(ranges) {
         if lowest > highest || highest.saturating_add(1) >= above {
