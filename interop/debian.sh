@@ -6,7 +6,7 @@
 registry=/usr/share/cargo/registry
 # What the example is built over.
 # shellcheck disable=SC2034
-example_packages=(libnghttp3-dev librust-html-escape-dev librust-httpdate-dev librust-libc-dev librust-mime-guess-dev librust-percent-encoding-dev librust-ring-dev librust-rlimit-dev librust-rustls-dev librust-rustls-pemfile-dev
+example_packages=(libnghttp3-dev librust-html-escape-dev librust-httpdate-dev librust-libc-dev librust-mime-guess-dev librust-nix-dev librust-percent-encoding-dev librust-ring-dev librust-rlimit-dev librust-rustls-dev librust-rustls-pemfile-dev
   librust-signal-hook-dev)
 
 is_installed() {

@@ -1,9 +1,10 @@
 //! A client: one connection on a socket of its own.
 
-use crate::connection::{Connection, Path};
+use crate::connection::Connection;
 use crate::fault::{Close, Outcome};
 use crate::program::{Refusal, tell_more};
 use crate::server::{receive_batch, turn};
+use crate::socket::{MOST_DATAGRAM, Socket};
 use crate::streams::Application;
 use gotsavena::Endpoint;
 use std::io::{self, ErrorKind};
@@ -17,14 +18,14 @@ const PATIENCE: Duration = Duration::from_secs(3);
 /// How long a client waits if streams are all that it waits for: the server's grant may be lost with its close.
 const STREAM_PATIENCE: Duration = Duration::from_secs(1);
 
-pub fn connect(server: SocketAddr) -> io::Result<UdpSocket> {
+pub fn connect(server: SocketAddr) -> io::Result<Socket> {
     let own = match server {
         SocketAddr::V4(_) => "0.0.0.0:0",
         SocketAddr::V6(_) => "[::]:0",
     };
     let socket = UdpSocket::bind(own)?;
     socket.connect(server)?;
-    Ok(socket)
+    Socket::new(socket)
 }
 
 /// Goes to the first of a server's addresses that answers, and on until the connection ends. A connection is made for each, since a
@@ -85,7 +86,7 @@ pub fn connect_often(
             .any(|(_, connection)| connection.end().is_none())
         {
             for (socket, connection) in &mut *some {
-                go_on(socket, connection).map_err(Refusal::failure)?;
+                go_on(socket, connection);
                 if let Some(outcome) = connection.outcome() {
                     return Err(Refusal::Failure(format!("a connection ended: {outcome}")));
                 }
@@ -95,25 +96,24 @@ pub fn connect_often(
     for some in visits.chunks_mut(AT_ONCE) {
         for (socket, connection) in some {
             connection.close(Close::new(Nothing::NO_ERROR, "enough"), Instant::now());
-            go_on(socket, connection).map_err(Refusal::failure)?;
+            go_on(socket, connection);
         }
         thread::sleep(PAUSE);
     }
     Ok(())
 }
 
-fn go_on(socket: &UdpSocket, connection: &mut Connection) -> io::Result<()> {
+fn go_on(socket: &Socket, connection: &mut Connection) {
     let now = Instant::now();
-    turn(connection, &mut Nothing, &mut Vec::new(), |bytes, _| {
-        _ = socket.send(bytes);
+    turn(connection, &mut Nothing, &mut Vec::new(), |bytes, to| {
+        socket.send(bytes, to)
     });
-    receive_batch(socket, Some(now), |datagram, _| {
-        connection.receive(datagram, Path::default(), now);
-    })?;
+    receive_batch(socket, &mut [0; MOST_DATAGRAM], |datagram, from| {
+        connection.receive(datagram, from, now);
+    });
     if connection.timer(now).is_some_and(|at| at <= now) {
         connection.time_is_up(now);
     }
-    Ok(())
 }
 
 pub trait Errand: Application {
@@ -180,21 +180,23 @@ impl Patience {
     }
 }
 
-fn is_refusal(sent: &io::Result<usize>) -> bool {
+fn is_refusal(sent: &io::Result<()>) -> bool {
     matches!(sent, Err(error) if error.kind() == ErrorKind::ConnectionRefused)
 }
 
 fn run_until<A: Application>(
-    socket: &UdpSocket,
+    socket: &Socket,
     connection: &mut Connection,
     application: &mut A,
     mut patience: Patience,
 ) -> io::Result<Outcome> {
-    let mut out = Vec::new();
+    let (mut out, mut buffer) = (Vec::new(), vec![0; MOST_DATAGRAM]);
     loop {
         let mut is_refused = false;
-        let more = turn(connection, application, &mut out, |bytes, _| {
-            is_refused |= is_refusal(&socket.send(bytes));
+        let more = turn(connection, application, &mut out, |bytes, to| {
+            let sent = socket.send(bytes, to);
+            is_refused |= is_refusal(&sent);
+            sent
         });
         if let (Some(outcome), false) = (connection.outcome(), more) {
             return Ok(outcome.clone());
@@ -206,9 +208,10 @@ fn run_until<A: Application>(
         }
         let timers = connection.timer(now).into_iter().chain(patient_until);
         let until = timers.chain(more.then_some(now)).min();
-        is_refused |= receive_batch(socket, until, |datagram, _from| {
-            connection.receive(datagram, Path::default(), Instant::now());
-        })?;
+        socket.wait(until, None)?;
+        is_refused |= receive_batch(socket, &mut buffer, |datagram, from| {
+            connection.receive(datagram, from, Instant::now());
+        });
         // A server that answered before has a port: then only its silence tells that it is gone.
         if is_refused && !connection.has_peer() {
             return Ok(Outcome::Refused);
@@ -256,7 +259,7 @@ mod tests {
         let tls = server_config(Identity::new().unwrap(), &[PROTOCOL]).unwrap();
         thread::spawn(move || {
             let make = move |_| RawServer::new(folder.clone());
-            Server::new(socket, tls, config(), make).run(&Stop::default())
+            Server::new(socket, tls, config(), make)?.run(&Stop::default())
         });
         address
     }

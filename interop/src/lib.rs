@@ -36,6 +36,7 @@ pub mod ranges;
 pub mod raw;
 pub mod recovery;
 pub mod server;
+pub mod socket;
 pub mod stop;
 pub mod streams;
 pub mod timers;

@@ -56,6 +56,13 @@ impl PathSize {
         self.tried += 1;
     }
 
+    /// The probe didn't go, since the link is too small for it. Answers which one that was: a smaller one is tried.
+    pub fn was_refused(&mut self) -> Option<u64> {
+        let probe = self.probe.take()?;
+        self.tried = (self.tried / TRIES + 1) * TRIES;
+        Some(probe)
+    }
+
     /// Large datagrams come no more: the path is another one now (RFC 8899, section 4.3).
     pub fn narrow(&mut self) {
         self.size = DATAGRAM;
@@ -95,6 +102,18 @@ mod tests {
         path.came();
         assert_eq!((path.size(), path.due()), (1350, None));
         path.narrow();
+        assert_eq!((path.size(), path.due()), (1200, None));
+    }
+
+    #[test]
+    fn a_size_that_the_link_refuses_is_tried_once() {
+        let mut path = PathSize::new();
+        path.most = 65_527;
+        path.sent(7);
+        assert_eq!(path.was_refused(), Some(7));
+        assert_eq!(path.due(), Some(1350));
+        path.sent(8);
+        assert_eq!(path.was_refused(), Some(8));
         assert_eq!((path.size(), path.due()), (1200, None));
     }
 

@@ -304,6 +304,20 @@ impl Recovery {
         }
     }
 
+    /// The link doesn't take a datagram of this size: that was a probe of the path, or the path is another one now.
+    pub fn was_too_large(&mut self, size: usize) {
+        if size <= self.path.size() {
+            self.path.narrow();
+            return self.resize();
+        }
+        let space = &mut self.spaces[Level::Data as usize];
+        let probe = self.path.was_refused();
+        if let Some(sent) = probe.and_then(|number| space.sent.remove(&number)) {
+            space.asking -= usize::from(sent.asks);
+            self.congestion.forget(sent.size);
+        }
+    }
+
     // Windows and pacing count datagrams of the size that the path has now.
     fn resize(&mut self) {
         self.congestion.resize(self.path.size());

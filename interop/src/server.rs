@@ -8,6 +8,7 @@ use crate::packet::{
     ConnectionId, Kind, Level, Packet, VERSION_1, read_packet, version_negotiation,
 };
 use crate::program;
+use crate::socket::{MOST_DATAGRAM, Socket};
 use crate::stop::Stop;
 use crate::streams::Application;
 use crate::timers::Timers;
@@ -15,9 +16,10 @@ use rustls::ServerConfig;
 use std::collections::{BTreeSet, HashMap};
 use std::io::{self, ErrorKind};
 use std::net::{SocketAddr, UdpSocket};
+use std::os::fd::RawFd;
 use std::panic::{AssertUnwindSafe, catch_unwind};
+use std::rc::Rc;
 use std::sync::Arc;
-use std::thread;
 use std::time::{Duration, Instant};
 
 /// A batch, so that one busy socket or connection doesn't keep the others waiting.
@@ -25,19 +27,14 @@ pub const BATCH: usize = 64;
 
 const LEAST_FIRST_ID: usize = 8;
 
-/// Something has to be said to the system; nothing happens then.
-const LONG: Duration = Duration::from_secs(3600);
-
-/// How much later than asked for a socket's wait ends at the most: the kernel counts it in ticks. The rest of a wait is slept in small
-/// pieces, between which the socket is looked at.
-const COARSE: Duration = Duration::from_millis(9);
-const FINE: Duration = Duration::from_micros(100);
-
 /// A server that is asked to stop ends soon, whatever its clients do.
 const GRACE: Duration = Duration::from_millis(300);
 
 pub struct Server<A> {
-    socket: Arc<UdpSocket>,
+    socket: Rc<Socket>,
+    /// There is something to read from it where the server is to stop.
+    wake: Option<RawFd>,
+    buffer: Vec<u8>,
     tls: Arc<ServerConfig>,
     config: Config,
     make: Box<dyn Fn(SocketAddr) -> A>,
@@ -71,43 +68,26 @@ struct Served<A> {
     was_told: bool,
 }
 
-/// Takes in what a socket has: it waits for the first datagram until a time. `take` has each with its sender. Answers whether the
-/// system told that no one listens on the peer's port.
+/// Takes in what a socket has, each datagram with where it came from. Answers whether the system told that no one listens on the peer's
+/// port.
 pub fn receive_batch(
-    socket: &UdpSocket,
-    until: Option<Instant>,
-    mut take: impl FnMut(&mut [u8], SocketAddr),
-) -> io::Result<bool> {
+    socket: &Socket,
+    buffer: &mut [u8],
+    mut take: impl FnMut(&mut [u8], Path),
+) -> bool {
     let mut is_refused = false;
-    let wait = until.map_or(LONG, |until| {
-        until.saturating_duration_since(Instant::now())
-    });
-    let long = wait.saturating_sub(COARSE);
-    socket.set_nonblocking(long.is_zero())?;
-    if !long.is_zero() {
-        socket.set_read_timeout(Some(long))?;
-    }
-    let mut buffer = [0; 65_536];
-    for place in 0..BATCH {
-        match socket.recv_from(&mut buffer) {
+    for _ in 0..BATCH {
+        match socket.receive(buffer) {
             Ok((len, from)) => take(&mut buffer[..len], from),
             Err(error) => match error.kind() {
-                ErrorKind::WouldBlock | ErrorKind::TimedOut | ErrorKind::Interrupted => {
-                    if place == 0 && long.is_zero() {
-                        thread::sleep(wait.min(FINE));
-                    }
-                    return Ok(is_refused);
-                }
+                ErrorKind::WouldBlock => break,
                 ErrorKind::ConnectionRefused => is_refused = true,
                 // What the network tells of datagrams that went says nothing of those that come.
                 _ => {}
             },
         }
-        if place == 0 {
-            socket.set_nonblocking(true)?;
-        }
     }
-    Ok(is_refused)
+    is_refused
 }
 
 /// Returns whether there is more: then it has another turn behind the others. A datagram that the system doesn't take is lost as any
@@ -116,7 +96,7 @@ pub fn turn<A: Application>(
     connection: &mut Connection,
     application: &mut A,
     out: &mut Vec<u8>,
-    mut transmit: impl FnMut(&[u8], Path),
+    mut transmit: impl FnMut(&[u8], Path) -> io::Result<()>,
 ) -> bool {
     let now = Instant::now();
     if let Some(end) = connection.end()
@@ -129,7 +109,9 @@ pub fn turn<A: Application>(
         let Some(to) = connection.send(out, now) else {
             return false;
         };
-        transmit(out, to);
+        if transmit(out, to).is_err_and(|error| error.raw_os_error() == Some(libc::EMSGSIZE)) {
+            connection.was_too_large(out.len());
+        }
     }
     true
 }
@@ -186,9 +168,8 @@ impl<A: Application> Served<A> {
         done
     }
 
-    fn take(&mut self, datagram: &mut [u8], from: SocketAddr) {
-        self.connection
-            .receive(datagram, Path { peer: from }, Instant::now());
+    fn take(&mut self, datagram: &mut [u8], from: Path) {
+        self.connection.receive(datagram, from, Instant::now());
         let peer = self.connection.path().peer;
         if self.peer != peer {
             program::tell_more(&format!("{} goes on as {peer}", self.peer));
@@ -197,11 +178,11 @@ impl<A: Application> Served<A> {
     }
 
     // Answers whether there is more.
-    fn go_on(&mut self, phase: Phase, socket: &UdpSocket, out: &mut Vec<u8>) -> bool {
+    fn go_on(&mut self, phase: Phase, socket: &Socket, out: &mut Vec<u8>) -> bool {
         let connection = &mut self.connection;
         part(phase, connection, &mut self.application);
         let more = turn(connection, &mut self.application, out, |bytes, to| {
-            _ = socket.send_to(bytes, to.peer);
+            socket.send(bytes, to)
         });
         if let (Some(outcome), false) = (connection.outcome(), self.was_told) {
             self.was_told = true;
@@ -240,9 +221,11 @@ impl<A: Application> Server<A> {
         tls: Arc<ServerConfig>,
         config: Config,
         make: impl Fn(SocketAddr) -> A + 'static,
-    ) -> Server<A> {
-        Server {
-            socket: Arc::new(socket),
+    ) -> io::Result<Server<A>> {
+        Ok(Server {
+            socket: Rc::new(Socket::new(socket)?),
+            wake: None,
+            buffer: vec![0; MOST_DATAGRAM],
             tls,
             config,
             make: Box::new(make),
@@ -256,7 +239,7 @@ impl<A: Application> Server<A> {
             next: 0,
             busy: BTreeSet::new(),
             phase: Phase::Serves,
-        }
+        })
     }
 
     pub fn looks(&self) -> u64 {
@@ -264,6 +247,7 @@ impl<A: Application> Server<A> {
     }
 
     pub fn run(&mut self, stop: &Stop) -> io::Result<()> {
+        self.wake = stop.wake();
         let mut out = Vec::new();
         while !stop.is_asked() {
             self.turn(self.waits_until(), &mut out)?;
@@ -273,6 +257,7 @@ impl<A: Application> Server<A> {
 
     // Tells all clients. A connection ends once nothing is under way on it, and all within a second.
     fn stop(&mut self, out: &mut Vec<u8>) -> io::Result<()> {
+        self.wake = None;
         let begin = Instant::now();
         for (phase, time) in [(Phase::Stops, GRACE), (Phase::Closes, 2 * GRACE)] {
             self.phase = phase;
@@ -297,10 +282,13 @@ impl<A: Application> Server<A> {
     fn turn(&mut self, until: Option<Instant>, out: &mut Vec<u8>) -> io::Result<()> {
         let socket = self.socket.clone();
         let mut concerned = std::mem::take(&mut self.busy);
+        socket.wait(until, self.wake)?;
+        let mut buffer = std::mem::take(&mut self.buffer);
         // Where a client's socket is gone its silence tells.
-        _ = receive_batch(&socket, until, |datagram, from| {
+        _ = receive_batch(&socket, &mut buffer, |datagram, from| {
             concerned.extend(self.take(datagram, from, out));
-        })?;
+        });
+        self.buffer = buffer;
         concerned.extend(self.timers_are_up());
         for key in concerned {
             if self.go_on(key, out) {
@@ -322,7 +310,7 @@ impl<A: Application> Server<A> {
     }
 
     // A datagram came: it belongs to a connection, or begins one.
-    fn take(&mut self, datagram: &mut [u8], from: SocketAddr, out: &mut Vec<u8>) -> Option<u64> {
+    fn take(&mut self, datagram: &mut [u8], from: Path, out: &mut Vec<u8>) -> Option<u64> {
         let packet = read_packet(datagram)?;
         if let Some(key) = self.ids.get(&packet.destination) {
             let served = self.served.get(*key)?;
@@ -333,14 +321,14 @@ impl<A: Application> Server<A> {
             out.clear();
             out.extend(version_negotiation(&packet));
             // Where it is lost, the client asks again.
-            _ = self.socket.send_to(out, from);
+            _ = self.socket.send(out, from);
             return None;
         }
         self.begin(&packet, datagram, from)
     }
 
     // Only an Initial that authenticates begins a connection: of others no state is kept, so that anybody's datagrams fill no memory.
-    fn begin(&mut self, packet: &Packet, datagram: &mut [u8], from: SocketAddr) -> Option<u64> {
+    fn begin(&mut self, packet: &Packet, datagram: &mut [u8], from: Path) -> Option<u64> {
         let is_initial = packet.kind == Kind::Protected(Level::Initial);
         if self.phase != Phase::Serves {
             return None;
@@ -354,8 +342,8 @@ impl<A: Application> Server<A> {
         let mut connection = Connection::server(tls, self.config, destination, source, now)
             .inspect_err(|fault| log::tell(format_args!("no connection: {fault}")))
             .ok()?;
-        let path = Path { peer: from };
-        apart(from, || connection.receive(datagram, path, now))?;
+        let peer = from.peer;
+        apart(peer, || connection.receive(datagram, from, now))?;
         if !connection.has_peer() {
             return None;
         }
@@ -364,10 +352,10 @@ impl<A: Application> Server<A> {
         for id in connection.ids() {
             self.ids.insert(id, key);
         }
-        let application = (self.make)(from);
+        let application = (self.make)(peer);
         let served = Served {
             connection,
-            peer: from,
+            peer,
             application,
             was_told: false,
         };
@@ -431,7 +419,7 @@ mod tests {
     }
 
     struct Client<A> {
-        socket: UdpSocket,
+        socket: Socket,
         connection: Connection,
         application: A,
         sent: u64,
@@ -457,7 +445,7 @@ mod tests {
             let socket = UdpSocket::bind("127.0.0.1:0").unwrap();
             let tls = server_config(Identity::new().unwrap(), &[PROTOCOL]).unwrap();
             World {
-                server: Server::new(socket, tls, config, make),
+                server: Server::new(socket, tls, config, make).unwrap(),
                 config,
             }
         }
@@ -481,15 +469,14 @@ mod tests {
             let mut out = Vec::new();
             let transmit = |bytes: &[u8], _| {
                 client.sent += 1;
-                client.socket.send(bytes).unwrap();
+                client.socket.send(bytes, Path::default())
             };
             turn(connection, &mut client.application, &mut out, transmit);
             let now = Some(Instant::now());
             self.server.turn(now, &mut out).unwrap();
-            let take = |datagram: &mut [u8], _| {
-                connection.receive(datagram, Path::default(), Instant::now());
-            };
-            receive_batch(&client.socket, now, take).unwrap();
+            receive_batch(&client.socket, &mut [0; 2048], |datagram, from| {
+                connection.receive(datagram, from, Instant::now());
+            });
             let now = Instant::now();
             if connection.timer(now).is_some_and(|at| at <= now) {
                 connection.time_is_up(now);
@@ -583,11 +570,10 @@ mod tests {
         // (its handshake is over at both ends)
         (0..20).for_each(|_| world.step(&mut client));
         world.server.stop(&mut Vec::new()).unwrap();
-        let take = |datagram: &mut [u8], _| {
-            let connection = &mut client.connection;
-            connection.receive(datagram, Path::default(), Instant::now());
-        };
-        receive_batch(&client.socket, Some(Instant::now()), take).unwrap();
+        let connection = &mut client.connection;
+        receive_batch(&client.socket, &mut [0; 2048], |datagram, from| {
+            connection.receive(datagram, from, Instant::now());
+        });
         let told = Outcome::PeerClosed {
             by_application: true,
             code: 0,

@@ -1,46 +1,41 @@
 //! How servers are asked to stop: by SIGTERM or SIGINT.
 
 use signal_hook::consts::{SIGINT, SIGTERM};
-use signal_hook::iterator::Signals;
-use signal_hook::low_level::emulate_default_handler;
+use signal_hook::{flag, low_level::pipe};
 use std::io;
-use std::net::UdpSocket;
+use std::os::fd::{AsRawFd, RawFd};
+use std::os::unix::net::UnixStream;
 use std::sync::Arc;
 use std::sync::atomic::{AtomicBool, Ordering};
-use std::thread;
 
 #[derive(Clone, Debug, Default)]
 pub struct Stop {
     is_asked: Arc<AtomicBool>,
+    /// A byte comes by it, which no one reads, so that each server sees it.
+    wake: Option<Arc<UnixStream>>,
 }
 
 impl Stop {
     /// One that the signals ask for. A second signal ends the program at once.
     ///
     /// # Errors
-    pub fn by_signals(sockets: &[UdpSocket]) -> io::Result<Stop> {
-        let stop = Stop::default();
-        let asked = stop.clone();
-        let sockets = sockets.iter().map(UdpSocket::try_clone);
-        let sockets = sockets.collect::<io::Result<Vec<UdpSocket>>>()?;
-        let mut signals = Signals::new([SIGTERM, SIGINT])?;
-        thread::spawn(move || {
-            for signal in signals.forever() {
-                if asked.is_asked() {
-                    _ = emulate_default_handler(signal);
-                }
-                asked.ask(&sockets);
-            }
-        });
+    pub fn by_signals() -> io::Result<Stop> {
+        let (wake, asks) = UnixStream::pair()?;
+        let stop = Stop {
+            is_asked: Arc::default(),
+            wake: Some(Arc::new(wake)),
+        };
+        for signal in [SIGTERM, SIGINT] {
+            flag::register_conditional_default(signal, stop.is_asked.clone())?;
+            flag::register(signal, stop.is_asked.clone())?;
+            pipe::register(signal, asks.try_clone()?)?;
+        }
         Ok(stop)
     }
 
-    /// Asks for it. What waits for a datagram on one of the sockets is woken by one without a byte.
-    pub fn ask(&self, sockets: &[UdpSocket]) {
-        self.is_asked.store(true, Ordering::Relaxed);
-        for socket in sockets {
-            _ = socket.local_addr().and_then(|own| socket.send_to(&[], own));
-        }
+    /// Where there is something to read once it is asked for.
+    pub fn wake(&self) -> Option<RawFd> {
+        self.wake.as_ref().map(|wake| wake.as_raw_fd())
     }
 
     pub fn is_asked(&self) -> bool {

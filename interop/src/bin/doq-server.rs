@@ -42,7 +42,9 @@ fn serve(mut words: Words) -> Result<(), Refusal> {
         idle: Duration::from_secs(30),
     };
     let socket = listen(&address)?;
-    let stop = Stop::by_signals(std::slice::from_ref(&socket)).map_err(Refusal::failure)?;
-    let mut server = Server::new(socket, tls, config, move |_| NameServer::new(zone.clone()));
+    let stop = Stop::by_signals().map_err(Refusal::failure)?;
+    let make = move |_| NameServer::new(zone.clone());
+    let server = Server::new(socket, tls, config, make);
+    let mut server = server.map_err(Refusal::failure)?;
     server.run(&stop).map_err(Refusal::failure)
 }

@@ -44,15 +44,16 @@ fn serve(mut words: Words) -> Result<(), Refusal> {
         tell_firefox(&of_certificate, port);
     }
     let budget = Budget::new(budget::OF_ALL);
-    let stop = Stop::by_signals(&sockets).map_err(Refusal::failure)?;
+    let stop = Stop::by_signals().map_err(Refusal::failure)?;
     // Each socket has a thread, and the connections that come by it.
     let servers = sockets.into_iter().map(|socket| {
         let (tls, stop) = (tls.clone(), stop.clone());
         let (folder, budget) = (folder.clone(), budget.clone());
         let make = move |peer| FileServer::new(folder.clone(), &budget, peer);
         move || {
-            let mut server = Server::new(socket, tls, config, make);
-            server.run(&stop).map_err(Refusal::failure)
+            let server = Server::new(socket, tls, config, make);
+            let ended = server.and_then(|mut server| server.run(&stop));
+            ended.map_err(Refusal::failure)
         }
     });
     run_all(servers)

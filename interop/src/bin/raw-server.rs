@@ -24,7 +24,9 @@ fn serve(mut words: Words) -> Result<(), Refusal> {
     let tls = server_config(identity, &[PROTOCOL])?;
     raise_file_limit();
     let socket = listen(&address)?;
-    let stop = Stop::by_signals(std::slice::from_ref(&socket)).map_err(Refusal::failure)?;
-    let mut server = Server::new(socket, tls, config, move |_| RawServer::new(folder.clone()));
+    let stop = Stop::by_signals().map_err(Refusal::failure)?;
+    let make = move |_| RawServer::new(folder.clone());
+    let server = Server::new(socket, tls, config, make);
+    let mut server = server.map_err(Refusal::failure)?;
     server.run(&stop).map_err(Refusal::failure)
 }

@@ -258,6 +258,11 @@ impl Connection {
         self.known.has_opened
     }
 
+    /// The system didn't take a datagram of this size: the link's is smaller.
+    pub fn was_too_large(&mut self, size: usize) {
+        self.recovery.was_too_large(size);
+    }
+
     /// How many key updates there were (RFC 9001, section 6).
     pub fn key_updates(&self) -> u64 {
         self.data_keys.as_ref().map_or(0, |keys| keys.updates)

@@ -10,7 +10,7 @@ use crate::recovery::{Control, FIRST_PROBE_TIMEOUT};
 use gotsavena::{Frame, Role, frames};
 use ring::rand::{SecureRandom, SystemRandom};
 use std::collections::{BTreeSet, VecDeque};
-use std::net::{Ipv4Addr, SocketAddr};
+use std::net::{IpAddr, Ipv4Addr, SocketAddr};
 use std::time::{Duration, Instant};
 
 /// A few at once, so that a client needn't use one at two addresses; and a bound in all, so that it can't ask for ever.
@@ -27,12 +27,14 @@ const MOST_WORDS: usize = 8;
 #[derive(Clone, Copy, Debug, PartialEq, Eq)]
 pub struct Path {
     pub peer: SocketAddr,
+    /// The address at which they come, where the socket has several.
+    pub own: Option<IpAddr>,
 }
 
 impl Default for Path {
     fn default() -> Path {
         let peer = SocketAddr::from((Ipv4Addr::UNSPECIFIED, 0));
-        Path { peer }
+        Path { peer, own: None }
     }
 }
 

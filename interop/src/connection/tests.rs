@@ -28,7 +28,7 @@ struct World {
 
 fn path(port: u16) -> Path {
     let peer = SocketAddr::from(([192, 0, 2, 1], port));
-    Path { peer }
+    Path { peer, own: None }
 }
 
 impl World {
