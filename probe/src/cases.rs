@@ -32,13 +32,13 @@ type Number = Box<dyn Fn(&Context<'_>) -> u64 + Send + Sync>;
 #[derive(Clone, Copy, Debug, PartialEq, Eq)]
 pub enum Owed {
     /// By what an endpoint sends that acts in its place.
-    Reset(u64),
-    Stream(u64),
+    Reset(Whose, Dir),
+    /// (of its peer's first stream)
+    Stream(Dir),
     Data,
     Streams(Dir),
     Blocked,
     /// By hand.
-    Answer(u64),
     PathResponse,
     Again,
     ResetAgain,
@@ -54,7 +54,7 @@ pub enum Step {
     /// All of a stream, so that it is over.
     Over(Number, u64),
     /// Up to the stream's limit, in order, so that what is read has to be granted again.
-    FillStream(u64),
+    FillStream(Dir),
     Owes(Owed),
     /// Whether the client acknowledges nothing.
     Quiet(bool),
@@ -70,8 +70,10 @@ pub enum Need {
     AnyBytes,
     /// It opened a stream of its own, of this direction.
     Own(Dir),
-    /// A stream's limit is no wider than the mirror's windows and than the connection's limit.
-    Limit(u64),
+    /// The limit of the first such stream is no wider than the mirror's windows and than the connection's limit.
+    Limit(Whose, Dir),
+    /// That limit is soon used up by payloads of a packet's size.
+    SmallLimit(Whose, Dir),
     /// The connection's credit is used up by few streams.
     Credit,
     /// It permits at least so many streams.

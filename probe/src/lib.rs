@@ -10,5 +10,6 @@ pub mod report;
 pub mod run;
 pub mod seen;
 pub mod subject;
+pub mod vectors;
 pub mod verdicts;
 pub mod wire;

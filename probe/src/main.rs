@@ -5,6 +5,7 @@ use gotsavena_probe::options::{self, Options, Target, Task, USAGE};
 use gotsavena_probe::outcome::Class;
 use gotsavena_probe::report::{self, About, Difference, News};
 use gotsavena_probe::run::{Judged, Run};
+use gotsavena_probe::vectors;
 use std::io::Write as _;
 use std::path::Path;
 use std::process::{Command, ExitCode};
@@ -39,7 +40,11 @@ fn done(task: Task) -> Result<u8, Ends> {
         Task::Help => say(USAGE),
         Task::Version => say(concat!("gotsavena-probe ", env!("CARGO_PKG_VERSION"))),
         Task::List => cases::all().iter().for_each(|case| say(&case.name)),
-        Task::Vectors(_) => return Err(Ends(WRONG_WORDS, "not yet".to_owned())),
+        Task::Vectors(folder) => {
+            let all = vectors::all();
+            write(&folder.join("vectors.json"), &all.json())?;
+            write(&folder.join("vectors.tsv"), &all.tsv())?;
+        }
         Task::Probe(options) => return probe(&options),
     }
     Ok(0)

@@ -77,6 +77,12 @@ impl Mirror {
         permit
     }
 
+    /// What it closes with if it gets this payload now.
+    pub fn would_close(&self, number: u64, payload: &[u8]) -> Option<Closes> {
+        let mut end = self.replay(Variant::Plain, &self.events);
+        received(&mut end, number, payload)
+    }
+
     /// What may come of the last payload where all that the peer sent behind it went before it came: packets cross.
     pub fn take_late(&self) -> Permit {
         let is_came = |event: &Event| matches!(event, Event::Came(..));

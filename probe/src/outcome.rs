@@ -104,12 +104,11 @@ impl Outcome {
 
     pub fn owed(owed: Owed) -> Outcome {
         let (class, what) = match owed {
-            Owed::Reset(_) => (Class::Must, "RESET_STREAM (3.5)"),
+            Owed::Reset(..) => (Class::Must, "RESET_STREAM (3.5)"),
             Owed::Stream(_) => (Class::Stalls, "MAX_STREAM_DATA (4.2)"),
             Owed::Data => (Class::Stalls, "MAX_DATA (4.2)"),
             Owed::Streams(_) => (Class::Choice, "MAX_STREAMS (4.6)"),
             Owed::Blocked => (Class::Should, "DATA_BLOCKED or STREAM_DATA_BLOCKED (4.1)"),
-            Owed::Answer(_) => (Class::Choice, "an answer"),
             Owed::PathResponse => (Class::Must, "PATH_RESPONSE (8.2.2)"),
             Owed::Again => (Class::Must, "what was lost (13.3)"),
             Owed::ResetAgain => (Class::Must, "RESET_STREAM that was lost (13.3)"),

@@ -1,6 +1,6 @@
 //! Plays a case over a link, with the mirror beside it, and judges what came of it.
 
-use crate::cases::{Case, Context, MOST_TO_FILL, Need, Owed, Payload, Step};
+use crate::cases::{CODE, Case, Context, MOST_TO_FILL, Need, Owed, Payload, Step, Whose};
 use crate::link::{Link, MOST_STREAMS, has};
 use crate::mirror::{CONN_WINDOW, Mirror, STREAM_WINDOW};
 use crate::outcome::{Class, Outcome};
@@ -16,6 +16,9 @@ use std::time::{Duration, Instant};
 const PATIENCE: Duration = Duration::from_millis(1500);
 /// A PING may be lost: so often another goes.
 const PING: Duration = Duration::from_millis(200);
+/// At most so much is sent to use a limit up, in payloads of the second size.
+const SMALL_LIMIT: u64 = 1 << 15;
+const PIECE: u64 = 1000;
 /// What an application does by then is known before the next payload goes.
 const GRACE: Duration = Duration::from_millis(8);
 
@@ -92,7 +95,7 @@ impl Player {
                 let stream = stream(&self.context());
                 self.over(stream, *len)
             }
-            Step::FillStream(stream) => self.fill(*stream),
+            Step::FillStream(dir) => self.fill(self.context().id(Whose::Peers, *dir, 0)),
             Step::Owes(owed) => self.owes(*owed),
             Step::Quiet(is_quiet) => {
                 self.is_quiet = *is_quiet;
@@ -145,13 +148,17 @@ impl Player {
                 own_stream(&self.seen, dir).is_some(),
                 "it opened no such stream",
             ),
-            Need::Limit(stream) => {
-                let limit = context.limit(stream);
+            Need::Limit(whose, dir) => {
+                let limit = context.limit(context.id(whose, dir, 0));
                 let most = self.seen.max_data.min(STREAM_WINDOW);
                 (limit > 1000 && limit < most, "its limits lie elsewhere")
             }
+            Need::SmallLimit(whose, dir) => {
+                let limit = context.limit(context.id(whose, dir, 0));
+                (limit <= SMALL_LIMIT, "its limits lie elsewhere")
+            }
             Need::Credit => {
-                let stream = context.id(crate::cases::Whose::Peers, Dir::Uni, 0);
+                let stream = context.id(Whose::Peers, Dir::Uni, 0);
                 let most = context.limit(stream).saturating_mul(MOST_TO_FILL);
                 let is_met = self.seen.max_data <= most.min(CONN_WINDOW - 1);
                 let counts = self.seen.count(Dir::Uni) > MOST_TO_FILL + 1;
@@ -300,7 +307,7 @@ impl Player {
         let mut at = self.filled.get(&stream).copied().unwrap_or(0);
         let limit = self.context().limit(stream);
         while at < limit {
-            let len = (limit - at).min(1000);
+            let len = (limit - at).min(PIECE);
             let payload = self.context().stream(stream, at, len, false);
             if let Some(outcome) = self.send(&payload) {
                 return Some(outcome);
@@ -337,55 +344,80 @@ impl Player {
     }
 
     fn owes(&mut self, owed: Owed) -> Option<Outcome> {
-        let own = self.mirror.acts();
-        let is_sent = |so: &dyn Fn(&Frame<'_>) -> bool| own.iter().any(|payload| has(payload, so));
-        let grants = self.link.places()[0].grants;
-        let is_by_mirror = match owed {
-            Owed::Reset(id) => is_sent(
-                &|frame| matches!(frame, Frame::ResetStream { stream, .. } if stream.value() == id),
-            ),
-            Owed::Stream(id) => is_sent(
-                &|frame| matches!(frame, Frame::MaxStreamData { stream, .. } if stream.value() == id),
-            ),
-            Owed::Data => is_sent(&|frame| matches!(frame, Frame::MaxData { .. })),
-            Owed::Streams(_) => is_sent(&|frame| matches!(frame, Frame::MaxStreams { .. })),
-            Owed::Blocked => is_sent(&|frame| {
-                matches!(
-                    frame,
-                    Frame::DataBlocked { .. } | Frame::StreamDataBlocked { .. }
-                )
-            }),
-            Owed::Answer(_) | Owed::PathResponse | Owed::Again | Owed::ResetAgain => true,
-        };
-        if !is_by_mirror {
+        if !self.is_owed(owed) {
             return None;
         }
+        let grants = self.link.places()[0].grants;
+        let context = self.context();
+        let stream = match owed {
+            Owed::Reset(whose, dir) => context.id(whose, dir, 0),
+            Owed::Stream(dir) => context.id(Whose::Peers, dir, 0),
+            _ => 0,
+        };
+        let first = |dir| match dir {
+            Dir::Uni => grants.uni,
+            Dir::Bidi => grants.bidi_remote,
+        };
         let is_met = move |seen: &Seen| match owed {
-            Owed::Reset(id) => seen.resets.contains_key(&id),
-            Owed::Stream(id) => StreamId::new(id).is_some_and(|id| {
-                seen.limit(id)
-                    > if id.dir() == Dir::Uni {
-                        grants.uni
-                    } else {
-                        grants.bidi_remote
-                    }
-            }),
+            Owed::Reset(..) => seen.resets.contains_key(&stream),
+            Owed::Stream(dir) => {
+                StreamId::new(stream).is_some_and(|stream| seen.limit(stream) > first(dir))
+            }
             Owed::Data => seen.max_data > grants.max_data,
             Owed::Streams(Dir::Bidi) => seen.max_streams[0] > grants.streams_bidi,
             Owed::Streams(Dir::Uni) => seen.max_streams[1] > grants.streams_uni,
             Owed::Blocked => seen.is_blocked,
-            Owed::Answer(id) => seen.streams.contains_key(&id),
             Owed::PathResponse => seen.path_responses > 0,
             Owed::Again => seen.again > 0,
             Owed::ResetAgain => seen.resets.values().any(|(_, _, count)| *count > 1),
         };
         if self.wait(is_met) {
-            return None;
+            return self.of_reset(owed, stream);
         }
         Some(match self.seen.close.clone() {
             Some(out) => Outcome::of(&Permit::taken(), &out),
             None => Outcome::owed(owed),
         })
+    }
+
+    // The code SHOULD be that of the stop (RFC 9000, section 3.5), as that of an endpoint is that acts in its place.
+    fn of_reset(&self, owed: Owed, stream: u64) -> Option<Outcome> {
+        let code = self.seen.resets.get(&stream)?.0;
+        let is_reset = matches!(owed, Owed::Reset(..));
+        (is_reset && code != CODE).then(|| {
+            let told = "sends RESET_STREAM with another code than the stop's (3.5)";
+            Outcome::new(Class::Should, told)
+        })
+    }
+
+    // Whether an endpoint that acts in its place sends it, where that can say so.
+    fn is_owed(&self, owed: Owed) -> bool {
+        let acts = self.mirror.acts();
+        let context = self.context();
+        let sends = |so: &dyn Fn(&Frame<'_>) -> bool| acts.iter().any(|payload| has(payload, so));
+        match owed {
+            Owed::Reset(whose, dir) => {
+                let id = context.id(whose, dir, 0);
+                sends(
+                    &|frame| matches!(frame, Frame::ResetStream { stream, .. } if stream.value() == id),
+                )
+            }
+            Owed::Stream(dir) => {
+                let id = context.id(Whose::Peers, dir, 0);
+                sends(
+                    &|frame| matches!(frame, Frame::MaxStreamData { stream, .. } if stream.value() == id),
+                )
+            }
+            Owed::Data => sends(&|frame| matches!(frame, Frame::MaxData { .. })),
+            Owed::Streams(_) => sends(&|frame| matches!(frame, Frame::MaxStreams { .. })),
+            Owed::Blocked => sends(&|frame| {
+                matches!(
+                    frame,
+                    Frame::DataBlocked { .. } | Frame::StreamDataBlocked { .. }
+                )
+            }),
+            Owed::PathResponse | Owed::Again | Owed::ResetAgain => true,
+        }
     }
 }
 

@@ -172,13 +172,11 @@ impl Place {
         }));
         let mut case = Case::new(name, steps);
         if needs_limit {
-            // A stream that isn't there yet has the limit of any.
-            let place = match (self.whose, self.dir) {
-                (Whose::Peers, Dir::Bidi) => 0,
-                (Whose::Peers, Dir::Uni) => 2,
-                (Whose::Own, _) => 1,
-            };
-            case.needs.push(Need::Limit(place));
+            case.needs.push(Need::Limit(self.whose, self.dir));
+        }
+        if (self.state, self.dir, kind) == (State::Last, Dir::Bidi, Kind::Fin) {
+            // (no request of HTTP/3)
+            case.needs.push(Need::AnyBytes);
         }
         if self.whose == Whose::Own && self.state == State::Open {
             case.needs.push(Need::Own(self.dir));

@@ -119,7 +119,7 @@ fn again() -> Vec<Case> {
             "again/at-limit",
             vec![send(repeat), send(repeat), send(overlap)],
         )
-        .needs(&[Need::Limit(2)]),
+        .needs(&[Need::Limit(Whose::Peers, Dir::Uni)]),
         Case::new("again/at-credit", vec![send(tails), send(tails)]).needs(&[Need::Credit]),
         Case::new(
             "again/fin",

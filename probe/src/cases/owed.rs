@@ -2,7 +2,7 @@
 
 use super::{CODE, Case, Context, Need, Owed, Step, Whose, plain, send};
 use crate::wire::{RESET_STREAM, STOP_SENDING, frame};
-use gotsavena::{Dir, Role};
+use gotsavena::Dir;
 
 fn stop(whose: Whose, dir: Dir) -> Step {
     send(move |context| frame(STOP_SENDING, &[context.id(whose, dir, 0), CODE]))
@@ -16,17 +16,26 @@ fn stops() -> Vec<Case> {
     vec![
         Case::new(
             "stops/own-bidi",
-            vec![stop(Whose::Own, Dir::Bidi), Step::Owes(Owed::Reset(1))],
+            vec![
+                stop(Whose::Own, Dir::Bidi),
+                Step::Owes(Owed::Reset(Whose::Own, Dir::Bidi)),
+            ],
         )
         .needs(&own(Dir::Bidi)),
         Case::new(
             "stops/own-uni",
-            vec![stop(Whose::Own, Dir::Uni), Step::Owes(Owed::Reset(3))],
+            vec![
+                stop(Whose::Own, Dir::Uni),
+                Step::Owes(Owed::Reset(Whose::Own, Dir::Uni)),
+            ],
         )
         .needs(&own(Dir::Uni)),
         Case::new(
             "stops/peers-bidi/new",
-            vec![stop(Whose::Peers, Dir::Bidi), Step::Owes(Owed::Reset(0))],
+            vec![
+                stop(Whose::Peers, Dir::Bidi),
+                Step::Owes(Owed::Reset(Whose::Peers, Dir::Bidi)),
+            ],
         )
         .needs(&[Need::AnyBytes]),
         Case::new(
@@ -34,7 +43,7 @@ fn stops() -> Vec<Case> {
             vec![
                 send(open),
                 stop(Whose::Peers, Dir::Bidi),
-                Step::Owes(Owed::Reset(0)),
+                Step::Owes(Owed::Reset(Whose::Peers, Dir::Bidi)),
             ],
         ),
         Case::new(
@@ -97,21 +106,30 @@ fn credit(dir: Dir, name: &str) -> Vec<Case> {
         });
         steps.chain([Step::Owes(Owed::Streams(dir))]).collect()
     };
-    let number = if dir == Dir::Bidi { 0 } else { 2 };
+    // HTTP/3 may read no unidirectional stream of a type that it doesn't know.
+    let of_http: &[Need] = if dir == Dir::Uni {
+        &[Need::AnyBytes]
+    } else {
+        &[]
+    };
     vec![
         Case::new(
             format!("grants/stream-data/{name}"),
             vec![
-                Step::FillStream(number),
-                Step::Owes(Owed::Stream(number)),
-                Step::FillStream(number),
-                Step::FillStream(number),
+                Step::FillStream(dir),
+                Step::Owes(Owed::Stream(dir)),
+                Step::FillStream(dir),
+                Step::FillStream(dir),
                 Step::Owes(Owed::Data),
             ],
         )
-        .needs(&[Need::Limit(number)]),
+        .needs(&[
+            Need::Limit(Whose::Peers, dir),
+            Need::SmallLimit(Whose::Peers, dir),
+        ])
+        .needs(of_http),
         Case::new(format!("grants/data-of-resets/{name}"), resets)
-            .needs(&[Need::Limit(number), Need::Streams(4)]),
+            .needs(&[Need::Limit(Whose::Peers, dir), Need::Streams(4)]),
         Case::new(format!("grants/streams/{name}"), ended(false)).needs(&[Need::Streams(16)]),
         Case::new(format!("grants/streams-of-resets/{name}"), ended(true))
             .needs(&[Need::Streams(16)]),
@@ -143,7 +161,7 @@ fn lost() -> Vec<Case> {
             vec![
                 Step::Quiet(true),
                 stop(Whose::Own, Dir::Bidi),
-                Step::Owes(Owed::Reset(1)),
+                Step::Owes(Owed::Reset(Whose::Own, Dir::Bidi)),
                 Step::Lose,
                 Step::Quiet(false),
                 plain(vec![1]),
@@ -155,14 +173,14 @@ fn lost() -> Vec<Case> {
 }
 
 fn others() -> Vec<Case> {
-    let answer = |context: &Context<'_>| {
-        let stream = context.id(Whose::Peers, Dir::Bidi, 0);
-        let is_for_role = context.role == Role::Server;
-        context.stream(stream, 0, if is_for_role { 40 } else { 1 }, true)
+    let ask = |context: &Context<'_>| {
+        // (a request of HTTP/3, and nothing behind it)
+        let len = if context.is_http { 18 } else { 40 };
+        context.stream(context.id(Whose::Peers, Dir::Bidi, 0), 0, len, true)
     };
     let mut tight = Case::new(
         "tight-limits",
-        vec![send(answer), Step::Pause(200), Step::Owes(Owed::Blocked)],
+        vec![send(ask), Step::Pause(200), Step::Owes(Owed::Blocked)],
     );
     tight.is_tight = true;
     vec![
