@@ -523,7 +523,7 @@ fn noted_counts_runs_until_a_reset_or_the_end_is_told() {
     };
     assert_eq!(server.noted(), 0);
     assert_eq!(put(&mut server, 0, 0, false), 1);
-    // Another stream, and gaps that come and go.
+    // Each stream counts its runs of offsets, and what fills a gap makes two of them one.
     assert_eq!(put(&mut server, 2, 4, false), 2);
     assert_eq!(put(&mut server, 2, 2, false), 3);
     assert_eq!(put(&mut server, 2, 0, false), 4);

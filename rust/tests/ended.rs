@@ -210,7 +210,7 @@ fn the_most_that_a_stream_leaves() {
     says("All 2^21 bidirectional streams: 111 MB if they end plainly, 1.2 GB at worst*");
     let of_all = |each: u64| each << 21;
     assert!(of_all(53) <= 111_200_000 && of_all(581) <= 1_220_000_000);
-    // A few more than half as many leave no more than all do.
+    // Just past a power of two each leaves more, but there are half as many of them.
     assert!(of_all(105) / 2 <= of_all(53) && of_all(729) / 2 <= of_all(581));
 }
 

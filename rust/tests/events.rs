@@ -60,7 +60,7 @@ fn news_of_each_kind_come_once_and_in_order() {
     assert_eq!(news(&mut ends[1]), told);
     assert_eq!(news(&mut ends[1]), []);
 
-    // The server answers and stops one stream; the client learns that its bytes came.
+    // (the write that was cut short is no news any more: its stream was stopped)
     ends[1].write(both, b"x").expect("open");
     ends[1].finish(both).expect("open");
     ends[1].stop(one, 7).expect("open");
@@ -69,7 +69,7 @@ fn news_of_each_kind_come_once_and_in_order() {
     assert_eq!(news(&mut ends[0]), told);
     assert_eq!(news(&mut ends[0]), []);
 
-    // Each stream comes to its end.
+    // (an end is news to the sender once all is acknowledged, and to the reader once it was read)
     assert_eq!(ends[0].read(both, &mut [0; 9]), Ok(Read::Bytes(1)));
     assert_eq!(ends[0].read(both, &mut [0; 9]), Ok(Read::End));
     ends[0].finish(both).expect("open");
