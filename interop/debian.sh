@@ -14,7 +14,8 @@ is_installed() {
 }
 
 install_packages() {
-  DEBIAN_FRONTEND=noninteractive timeout 300 apt-get install -qq -y --no-install-recommends "$@"
+  # (another call of apt-get may go on)
+  DEBIAN_FRONTEND=noninteractive timeout 600 apt-get -o DPkg::Lock::Timeout=300 install -qq -y --no-install-recommends "$@"
 }
 
 # The versions for which the example is written are those of Debian 12. Says what isn't so.

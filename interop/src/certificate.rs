@@ -5,7 +5,12 @@ use crate::program::Refusal;
 use ring::digest::{SHA256, digest};
 use ring::error::Unspecified;
 use ring::rand::SystemRandom;
-use ring::signature::{ECDSA_P256_SHA256_ASN1_SIGNING, EcdsaKeyPair, KeyPair};
+use ring::signature::{
+    ECDSA_P256_SHA256_ASN1, ECDSA_P256_SHA256_ASN1_SIGNING, ECDSA_P384_SHA384_ASN1, ED25519,
+    EcdsaKeyPair, KeyPair, RSA_PSS_2048_8192_SHA256, UnparsedPublicKey, VerificationAlgorithm,
+};
+use rustls::sign::any_supported_type;
+use rustls::{PrivateKey, SignatureScheme};
 use rustls_pemfile::Item;
 use std::fmt::Display;
 use std::fs::{File, OpenOptions, create_dir_all};
@@ -19,6 +24,20 @@ pub struct Identity {
     pub certificates: Vec<Vec<u8>>,
     pub key: Vec<u8>,
 }
+
+// The kinds of keys that TLS signs with here, each with what verifies it.
+const VERIFIED: [(SignatureScheme, &dyn VerificationAlgorithm); 4] = [
+    (
+        SignatureScheme::ECDSA_NISTP256_SHA256,
+        &ECDSA_P256_SHA256_ASN1,
+    ),
+    (
+        SignatureScheme::ECDSA_NISTP384_SHA384,
+        &ECDSA_P384_SHA384_ASN1,
+    ),
+    (SignatureScheme::ED25519, &ED25519),
+    (SignatureScheme::RSA_PSS_SHA256, &RSA_PSS_2048_8192_SHA256),
+];
 
 const SEQUENCE: u8 = 0x30;
 const SET: u8 = 0x31;
@@ -71,8 +90,37 @@ impl Identity {
             Item::PKCS8Key(der) | Item::ECKey(der) | Item::RSAKey(der) => Some(der),
             _ => None,
         });
-        let key = keys.next().ok_or_else(|| lacks(key, "no private key"))?;
-        Ok(Identity { certificates, key })
+        let der = keys.next().ok_or_else(|| lacks(key, "no private key"))?;
+        let identity = Identity {
+            certificates,
+            key: der,
+        };
+        match identity.is_of_one_pair() {
+            Some(false) => Err(Refusal::Failure(format!(
+                "{} is not the key of {}",
+                key.display(),
+                certificate.display()
+            ))),
+            _ => Ok(identity),
+        }
+    }
+
+    // Whether what the key signs is what the certificate verifies; `None` where there is no telling.
+    fn is_of_one_pair(&self) -> Option<bool> {
+        let key = any_supported_type(&PrivateKey(self.key.clone())).ok()?;
+        let schemes: Vec<SignatureScheme> = VERIFIED.iter().map(|(scheme, _)| *scheme).collect();
+        let signer = key.choose_scheme(&schemes)?;
+        let (_, algorithm) = VERIFIED
+            .iter()
+            .find(|(scheme, _)| *scheme == signer.scheme())?;
+        let signature = signer.sign(NAME).ok()?;
+        // An algorithm, and the key's bits behind a byte that counts those that are left over (RFC 5280, section 4.1).
+        let mut whole = self.public_key()?;
+        let mut inner = content(&mut whole)?;
+        content(&mut inner)?;
+        let public = content(&mut inner)?.get(1..)?;
+        let public = UnparsedPublicKey::new(*algorithm, public);
+        Some(public.verify(NAME, &signature).is_ok())
     }
 
     /// That of a folder, made if it isn't there: a browser that was told to trust it needs no second word.
@@ -90,6 +138,10 @@ impl Identity {
 
     /// The hash of the certificate's public key, as browsers name it (RFC 7469, section 2.4); `None` where it has none.
     pub fn key_hash(&self) -> Option<String> {
+        Some(base64::encode(digest(&SHA256, self.public_key()?)))
+    }
+
+    fn public_key(&self) -> Option<&[u8]> {
         let mut certificate = self.certificates.first()?.as_slice();
         let mut whole = content(&mut certificate)?;
         let mut body = content(&mut whole)?;
@@ -102,8 +154,7 @@ impl Identity {
         }
         let from = body;
         content(&mut body)?;
-        let key = &from[..from.len() - body.len()];
-        Some(base64::encode(digest(&SHA256, key)))
+        Some(&from[..from.len() - body.len()])
     }
 
     /// The hash of the certificate, as Firefox names it in its list of exceptions.
@@ -222,6 +273,12 @@ mod tests {
         assert_eq!(made.key, again.key);
         assert_eq!(made.certificates, again.certificates);
         let key = folder.join("key.pem");
+        assert_eq!(made.is_of_one_pair(), Some(true));
+        let other = Identity {
+            key: Identity::new().unwrap().key,
+            ..again
+        };
+        assert_eq!(other.is_of_one_pair(), Some(false));
         let wrong = Identity::read(&key, &key).unwrap_err();
         assert!(
             matches!(wrong, Refusal::Failure(text) if text.ends_with("has no certificate (PEM)"))

@@ -62,7 +62,8 @@ impl Folder {
         let mut last = &[][..];
         for part in path.split(|byte| *byte == b'/') {
             let name = decoded(part).ok_or(ErrorKind::NotFound)?;
-            if name == b".." || name.contains(&b'/') || name.contains(&0) {
+            let is_first = file == self.root;
+            if is_hidden(&name, is_first) || name.contains(&b'/') || name.contains(&0) {
                 return Err(ErrorKind::NotFound.into());
             }
             file.push(OsStr::from_bytes(&name));
@@ -74,8 +75,8 @@ impl Folder {
         }
         match last {
             [] => match self.within(&file.join(INDEX)) {
-                Ok(index) => open(&index).map(Named::File),
-                Err(_) => list(self, &file).map(Named::Listing),
+                Ok(index) if !index.is_dir() => open(&index).map(Named::File),
+                _ => list(self, &file).map(Named::Listing),
             },
             name => Ok(Named::Folder(format!("./{}/", name.escape_ascii()))),
         }
@@ -131,6 +132,11 @@ pub fn is_exhausted(error: &io::Error) -> bool {
         error.raw_os_error(),
         Some(libc::EMFILE | libc::ENFILE | libc::ENOMEM)
     )
+}
+
+// What begins with a dot isn't given out, but for what hosts are asked for (RFC 8615).
+fn is_hidden(name: &[u8], is_first: bool) -> bool {
+    name.starts_with(b".") && name != b"." && !(is_first && name == b".well-known")
 }
 
 // By the ending of the name. Texts are taken for UTF-8.
@@ -285,6 +291,11 @@ mod tests {
             "/plain%zz",
             "/plain/",
             "/none",
+            "/.hidden",
+            "/sub/.hidden",
+            "/%2ehidden",
+            "/sub/.well-known/a",
+            "/.well-known/.hidden",
         ] {
             assert!(folder.named(path.as_bytes()).is_err(), "{path}");
             assert!(folder.plain(path).is_err(), "{path}");

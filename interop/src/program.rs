@@ -42,6 +42,9 @@ impl Refusal {
     }
 }
 
+/// How a script that starts a program is called: its words are told of then, and not the program's.
+const CALLED: &str = "INTEROP_CALLED";
+
 #[derive(Debug, Default)]
 pub struct Words {
     options: BTreeMap<String, String>,
@@ -56,12 +59,13 @@ pub fn tell_more(line: &str) {
     }
 }
 
-/// Runs a program: `usage`, which begins with its name, is told where its words make no sense. Every program knows `--help`,
-/// `--version` and `--verbose`.
+/// Runs a program: `usage` begins with its name, has all of its options, and is told where its words make no sense. Every program knows
+/// `--qlog`, `--verbose`, `--help` and `--version`.
 pub fn run(usage: &str, main: impl FnOnce(Words) -> Result<(), Refusal>) -> ExitCode {
+    let usage = format!("{usage} [--qlog FOLDER] [--verbose] [--help] [--version]");
     let answer = |words: Words| {
         if words.asks_for_help {
-            println!("usage: {usage} [--verbose] [--help] [--version]");
+            println!("usage: {usage}");
         } else if words.asks_for_version {
             let name = usage.split(' ').next().unwrap_or_default();
             println!("{name} {}", env!("CARGO_PKG_VERSION"));
@@ -71,11 +75,16 @@ pub fn run(usage: &str, main: impl FnOnce(Words) -> Result<(), Refusal>) -> Exit
         Ok(())
     };
     std::panic::set_hook(Box::new(|panic| tell(panic)));
-    let answered = || words(std::env::args().skip(1)).and_then(answer);
+    let answered = || words(std::env::args().skip(1), &usage).and_then(answer);
     let status = match catch_unwind(AssertUnwindSafe(answered)) {
         Ok(Ok(())) => 0,
         Ok(Err(Refusal::Usage(reason))) => {
-            tell(format_args!("{reason}\nusage: {usage}"));
+            match std::env::var(CALLED) {
+                Ok(script) => tell(format_args!(
+                    "{reason}; {script} --help tells what there is"
+                )),
+                Err(_) => tell(format_args!("{reason}\nusage: {usage}")),
+            }
             2
         }
         Ok(Err(Refusal::Failure(reason))) => {
@@ -88,27 +97,41 @@ pub fn run(usage: &str, main: impl FnOnce(Words) -> Result<(), Refusal>) -> Exit
     ExitCode::from(status)
 }
 
-fn words(given: impl Iterator<Item = String>) -> Result<Words, Refusal> {
+// An option has its value in the same word, behind `=`, or in the next one. Behind `--` there are none.
+fn words(mut given: impl Iterator<Item = String>, usage: &str) -> Result<Words, Refusal> {
     let mut words = Words::default();
-    let mut given = given;
     while let Some(word) = given.next() {
-        let Some(name) = word.strip_prefix("--") else {
+        let Some(option) = word.strip_prefix("--") else {
             words.rest.push(word);
             continue;
         };
-        match name {
-            "help" => words.asks_for_help = true,
-            "version" => words.asks_for_version = true,
-            "verbose" => TELLS_MORE.store(true, Ordering::Relaxed),
+        let (name, value) = match option.split_once('=') {
+            Some((name, value)) => (name, Some(value.to_owned())),
+            None => (option, None),
+        };
+        match (name, &value) {
+            ("", None) => words.rest.extend(given.by_ref()),
+            ("help", None) => words.asks_for_help = true,
+            ("version", None) => words.asks_for_version = true,
+            ("verbose", None) => TELLS_MORE.store(true, Ordering::Relaxed),
+            ("help" | "version" | "verbose", Some(_)) => {
+                return Err(Refusal::Usage(format!("--{name} has no value")));
+            }
+            _ if !usage.contains(&format!("[--{name} "))
+                && !usage.contains(&format!(" --{name} ")) =>
+            {
+                return Err(Refusal::Usage(format!("there is no option --{name}")));
+            }
             _ => {
                 let lacking = || Refusal::Usage(format!("--{name} lacks its value"));
-                let value = given.next().ok_or_else(lacking)?;
+                let value = value.or_else(|| given.next()).ok_or_else(lacking)?;
                 words.options.insert(name.to_owned(), value);
             }
         }
     }
     if let Some(folder) = words.options.remove("qlog") {
-        crate::qlog::write_into(&folder);
+        let refused = |error| Refusal::Failure(format!("{folder} can't be written into: {error}"));
+        crate::qlog::write_into(&folder).map_err(refused)?;
     }
     Ok(words)
 }
@@ -132,9 +155,8 @@ impl Words {
         }
     }
 
-    /// The words that are no options: exactly so many, and no option that wasn't asked for.
+    /// The words that are no options: exactly so many.
     pub fn exactly<const N: usize>(&self) -> Result<[String; N], Refusal> {
-        self.no_more_options()?;
         let count = self.rest.len();
         let rest = self.rest.clone().try_into();
         rest.map_err(|_| Refusal::Usage(format!("{count} words where {N} are expected")))
@@ -165,23 +187,18 @@ impl Words {
             }
         }
     }
-
-    pub fn no_more_options(&self) -> Result<(), Refusal> {
-        match self.options.keys().next() {
-            Some(name) => Err(Refusal::Usage(format!("there is no option --{name}"))),
-            None => Ok(()),
-        }
-    }
 }
 
 pub fn addresses(text: &str) -> Result<Vec<SocketAddr>, Refusal> {
-    let found = text.to_socket_addrs().into_iter().flatten();
-    let found: Vec<SocketAddr> = found.collect();
-    match found.is_empty() {
-        true => Err(Refusal::Usage(format!(
+    match (text.to_socket_addrs(), text.rsplit_once(':')) {
+        (Ok(found), _) if found.len() > 0 => Ok(found.collect()),
+        (Err(error), Some((host, port))) if port.parse::<u16>().is_ok() && !host.is_empty() => {
+            let reason = format!("{host} can't be resolved: {error}");
+            Err(Refusal::Failure(reason))
+        }
+        _ => Err(Refusal::Usage(format!(
             "{text} is no address, such as 127.0.0.1:8853"
         ))),
-        false => Ok(found),
     }
 }
 
@@ -352,6 +369,34 @@ pub fn tell_speed(bytes: usize, time: Duration) {
 #[cfg(test)]
 mod tests {
     use super::*;
+
+    #[test]
+    fn words_are_read_in_their_usual_forms() {
+        let read = |line: &str| {
+            words(
+                line.split(' ').map(str::to_owned),
+                "it [--port N] [--cert A --key B] [--qlog F] X",
+            )
+        };
+        let mut found = read("--port=1 a --key 2 -- --port --b").unwrap();
+        assert_eq!(found.rest, ["a", "--port", "--b"]);
+        assert_eq!(
+            ["port", "key"].map(|name| found.option(name).unwrap()),
+            ["1", "2"]
+        );
+        for (line, wanted) in [
+            ("--por 1", "there is no option --por"),
+            ("--bogus", "there is no option --bogus"),
+            ("a --port", "--port lacks its value"),
+            ("--help=1", "--help has no value"),
+        ] {
+            assert!(
+                matches!(read(line), Err(Refusal::Usage(told)) if told == wanted),
+                "{line}"
+            );
+        }
+        assert!(matches!(read("--qlog /no/such"), Err(Refusal::Failure(_))));
+    }
 
     #[test]
     fn a_task_that_panics_ends_all() {

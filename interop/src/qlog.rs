@@ -10,7 +10,7 @@ use gotsavena::{AckRanges, Dir, Endpoint, Frame, Role, StreamId, frames};
 use std::collections::BTreeMap;
 use std::fmt::Write as _;
 use std::fs::File;
-use std::io::Write as _;
+use std::io::{self, Write as _};
 use std::path::{Path, PathBuf};
 use std::sync::OnceLock;
 use std::time::{Duration, Instant, SystemTime, UNIX_EPOCH};
@@ -18,9 +18,18 @@ use std::time::{Duration, Instant, SystemTime, UNIX_EPOCH};
 static FOLDER: OnceLock<PathBuf> = OnceLock::new();
 
 /// A file for each connection that begins from now on, by its first identifier and its role, so that two programs may share a folder.
-pub fn write_into(folder: &str) {
+///
+/// # Errors
+///
+/// Of a folder into which nothing can be written.
+pub fn write_into(folder: &str) -> io::Result<()> {
+    let folder = PathBuf::from(folder);
+    let tried = folder.join(format!("tried-by-{}", std::process::id()));
+    File::create(&tried)?;
+    std::fs::remove_file(&tried)?;
     // Asked for twice, the first one stands.
-    _ = FOLDER.set(PathBuf::from(folder));
+    _ = FOLDER.set(folder);
+    Ok(())
 }
 
 pub struct Trace {

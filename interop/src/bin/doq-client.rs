@@ -22,7 +22,6 @@ fn ask(mut words: Words) -> Result<(), Refusal> {
     let version = words.quic_version()?;
     let idle = Duration::from_secs(words.number("idle", 30)?);
     let kind = words.option("type").unwrap_or_else(|| "A".to_owned());
-    words.no_more_options()?;
     let kind = type_of(&kind)?;
     let [server, names @ ..] = words.rest.as_slice() else {
         return Err(Refusal::Usage(

@@ -12,7 +12,7 @@ use std::time::Instant;
 
 fn main() -> ExitCode {
     program::run(
-        "h3-client [--download DIR] [--stop-after BYTES] [--resets N] [--unread N] [--urgent PATH] [--window BYTES] [--stream-window BYTES] [--most-window BYTES] [--streams N] [--idle SECONDS] [--qlog FOLDER] [--quic-version HEX] URL..",
+        "h3-client [--download DIR] [--stop-after BYTES] [--resets N] [--unread N] [--urgent PATH] [--window BYTES] [--stream-window BYTES] [--most-window BYTES] [--streams N] [--lifetime N] [--idle SECONDS] [--quic-version HEX] URL..",
         load,
     )
 }
@@ -25,7 +25,6 @@ fn load(mut words: Words) -> Result<(), Refusal> {
     let resets = words.number("resets", 0)? as usize;
     let unread = words.number("unread", 0)? as usize;
     let urgent = words.option("urgent");
-    words.no_more_options()?;
     let (first, urls) = urls(&words.rest)?;
     let begin = Instant::now();
     let manners = Manners {

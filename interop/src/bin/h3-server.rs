@@ -15,7 +15,7 @@ use std::process::ExitCode;
 
 fn main() -> ExitCode {
     program::run(
-        "h3-server [--cert FILE --key FILE | --identity FOLDER] [--window BYTES] [--stream-window BYTES] [--most-window BYTES] [--streams N] [--idle SECONDS] [--qlog FOLDER] DIR ADDR..",
+        "h3-server [--cert FILE --key FILE | --identity FOLDER] [--window BYTES] [--stream-window BYTES] [--most-window BYTES] [--streams N] [--lifetime N] [--idle SECONDS] DIR ADDR..",
         serve,
     )
 }
@@ -23,7 +23,6 @@ fn main() -> ExitCode {
 fn serve(mut words: Words) -> Result<(), Refusal> {
     let config = serving(config(&mut words)?);
     let identity = words.identity()?;
-    words.no_more_options()?;
     let [root, addresses @ ..] = words.rest.as_slice() else {
         return Err(Refusal::Usage(
             "a folder and addresses are expected".to_owned(),

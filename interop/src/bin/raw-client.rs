@@ -11,7 +11,7 @@ use std::time::Instant;
 
 fn main() -> ExitCode {
     program::run(
-        "raw-client [--connections N] [--window BYTES] [--stream-window BYTES] [--most-window BYTES] [--streams N] [--idle SECONDS] [--qlog FOLDER] [--quic-version HEX] ADDR DIR PATH..",
+        "raw-client [--connections N] [--window BYTES] [--stream-window BYTES] [--most-window BYTES] [--streams N] [--lifetime N] [--idle SECONDS] [--quic-version HEX] ADDR DIR PATH..",
         load,
     )
 }
@@ -20,7 +20,6 @@ fn load(mut words: Words) -> Result<(), Refusal> {
     let config = config(&mut words)?;
     let version = words.quic_version()?;
     let connections = words.number("connections", 0)? as usize;
-    words.no_more_options()?;
     let [server, folder, paths @ ..] = words.rest.as_slice() else {
         return Err(Refusal::Usage(
             "an address, a folder and paths are expected".to_owned(),

@@ -10,7 +10,7 @@ use std::process::ExitCode;
 
 fn main() -> ExitCode {
     program::run(
-        "raw-server [--cert FILE --key FILE | --identity FOLDER] [--window BYTES] [--stream-window BYTES] [--most-window BYTES] [--streams N] [--idle SECONDS] [--qlog FOLDER] DIR ADDR",
+        "raw-server [--cert FILE --key FILE | --identity FOLDER] [--window BYTES] [--stream-window BYTES] [--most-window BYTES] [--streams N] [--lifetime N] [--idle SECONDS] DIR ADDR",
         serve,
     )
 }

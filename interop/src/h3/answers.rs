@@ -8,7 +8,7 @@ use html_escape::encode_text;
 use httpdate::{fmt_http_date, parse_http_date};
 use percent_encoding::{AsciiSet, NON_ALPHANUMERIC, percent_encode};
 use std::fmt::Write as _;
-use std::io;
+use std::io::{self, ErrorKind};
 use std::ops::Range;
 use std::time::{SystemTime, UNIX_EPOCH};
 
@@ -23,6 +23,8 @@ const ESCAPED: &AsciiSet = &NON_ALPHANUMERIC
 pub struct Request {
     pub method: Vec<u8>,
     pub path: Vec<u8>,
+    if_match: Option<String>,
+    if_unmodified_since: Option<String>,
     if_none_match: Option<String>,
     if_modified_since: Option<String>,
     range: Option<String>,
@@ -52,6 +54,8 @@ impl Request {
             b":path" => self.path = value,
             // CONNECT has no path (RFC 9114, section 4.4).
             b":authority" if self.path.is_empty() => self.path = value,
+            b"if-match" => self.if_match = text(),
+            b"if-unmodified-since" => self.if_unmodified_since = text(),
             b"if-none-match" => self.if_none_match = text(),
             b"if-modified-since" => self.if_modified_since = text(),
             b"range" => self.range = text(),
@@ -67,12 +71,20 @@ impl Request {
     pub fn answer(&self, folder: &Folder) -> Answer {
         let answered = match folder.named(&self.path) {
             Ok(Named::File(found)) => self.of_file(found),
-            Ok(Named::Folder(to)) => Ok(Answer::of("301", &[("location", &to)])),
+            Ok(Named::Folder(to)) => {
+                let query = self.path.iter().position(|byte| *byte == b'?');
+                let query = query.map_or(&[][..], |at| &self.path[at..]);
+                let to = format!("{to}{}", query.escape_ascii());
+                Ok(Answer::of("301", &[("location", &to)]))
+            }
             Ok(Named::Listing(listed)) => Ok(self.page("200", listing(&self.path, &listed))),
             Err(error) => Err(error),
         };
         answered.unwrap_or_else(|error| match is_exhausted(&error) {
             true => self.unavailable(&error.to_string()),
+            false if error.kind() == ErrorKind::PermissionDenied => {
+                self.page("403", page("403", "<p>The server may not read it."))
+            }
             false => self.page("404", page("404", "<p>There is no such file.")),
         })
     }
@@ -93,6 +105,9 @@ impl Request {
 
     fn of_file(&self, found: Found) -> io::Result<Answer> {
         let tag = tag(&found);
+        if !self.is_as_expected(&found, &tag) {
+            return Ok(Answer::of("412", &[]));
+        }
         let status = match self.is_fresh(&found, &tag) {
             true => "304",
             false => "200",
@@ -132,12 +147,22 @@ impl Request {
         Ok(answer)
     }
 
-    // Whether the client has the file as it is (RFC 9110, section 13.2.2).
+    // Whether the file is one that the client wants it to be (RFC 9110, sections 13.1.1 and 13.1.4).
+    fn is_as_expected(&self, found: &Found, tag: &str) -> bool {
+        match (&self.if_match, &self.if_unmodified_since) {
+            (Some(tags), _) => listed(tags).any(|known| known == "*" || known == tag),
+            // (a date that is none counts for nothing)
+            (None, Some(date)) => {
+                parse_http_date(date).map_or(true, |date| seconds(found.modified) <= seconds(date))
+            }
+            (None, None) => true,
+        }
+    }
+
+    // Whether the client has the file as it is (section 13.2.2).
     fn is_fresh(&self, found: &Found, tag: &str) -> bool {
         match (&self.if_none_match, &self.if_modified_since) {
-            (Some(tags), _) => tags
-                .split(',')
-                .map(str::trim)
+            (Some(tags), _) => listed(tags)
                 .any(|known| known == "*" || known.strip_prefix("W/").unwrap_or(known) == tag),
             (None, Some(date)) => {
                 parse_http_date(date).is_ok_and(|date| seconds(found.modified) <= seconds(date))
@@ -188,6 +213,10 @@ impl Answer {
 
 pub fn field(name: &str, value: &str) -> Field {
     (name.as_bytes().to_vec(), value.as_bytes().to_vec())
+}
+
+fn listed(tags: &str) -> impl Iterator<Item = &str> {
+    tags.split(',').map(str::trim)
 }
 
 fn seconds(time: SystemTime) -> u64 {
