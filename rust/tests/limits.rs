@@ -543,7 +543,7 @@ const ELSEWHERE: &[(&str, &str)] = &[
         "crates/qs_send/src/half.rt",
     ),
     (
-        "An endpoint without streams takes 6,304",
+        "An endpoint without streams takes 5,792",
         "rust/tests/held.rs",
     ),
     (
