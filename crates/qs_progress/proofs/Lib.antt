@@ -38,3 +38,11 @@ pub mod Carrying
 pub mod Waiting
 pub mod Unread
 pub mod Counting
+pub mod Filled
+pub mod Onward
+pub mod Landed
+pub mod Paid
+pub mod Charged
+pub mod Unwritten
+pub mod ReadInRounds
+pub mod ExclusionsWindows

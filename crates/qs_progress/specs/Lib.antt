@@ -12,3 +12,5 @@ pub mod Outstanding
 pub mod Going
 pub mod Comes
 pub mod Ending
+pub mod Windows
+pub mod ExclusionsWindows

@@ -7,10 +7,12 @@ ghost use Rattle.qs_progress.specs.Bound.{DoneIsBounded};
 ghost use Rattle.qs_progress.specs.Outstanding.{WhatIsOutStays};
 ghost use Rattle.qs_progress.specs.Going.{WhatGoesOutIsNew};
 ghost use Rattle.qs_progress.specs.Comes.{RestComes, AllComes, RestComesInRounds, AllComesInRounds};
+ghost use Rattle.qs_progress.specs.Windows.{AllIsReadInRounds};
 ghost use Rattle.qs_progress.specs.Ending.{CallsComeToAnEnd, RoomyPacketsCarry};
 ghost use Rattle.qs_progress.specs.Exclusions.{Exclusions};
 ghost use Rattle.qs_progress.specs.ExclusionsLaps.{LapExclusions};
 ghost use Rattle.qs_progress.specs.ExclusionsRounds.{RoundExclusions};
+ghost use Rattle.qs_progress.specs.ExclusionsWindows.{WindowExclusions};
 ghost use Rattle.qs_progress.specs.ExclusionsEnding.{EndingExclusions};
 
 /// What is done stays done: whatever happens, an end's score never falls, once it was told its peer's true limits.
@@ -103,4 +105,14 @@ pub fn round_exclusions()
 /// A read that tells the end counts, and none that tells it again; a packet that holds a piece counts, and none of ACKs alone.
 pub fn ending_exclusions()
     ensures { EndingExclusions }
+{}
+
+/// All that is written is read in time: a number of windows that are filled bounds how many rounds begin before that.
+pub fn all_is_read_in_rounds()
+    ensures { AllIsReadInRounds }
+{}
+
+/// How wide windows are, what fills them, and where not all is read.
+pub fn window_exclusions()
+    ensures { WindowExclusions }
 {}

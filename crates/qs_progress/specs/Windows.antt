@@ -1,0 +1,70 @@
+-- Trusted.
+-- All that is written is read in time, and a number of windows bounds how many rounds that takes. The whole file is ours, but that a clause
+-- names its section of RFC 9000.
+use Rattle.std.specs.Prelude.{◌≡◌, ℕ, suc, ◌+◌, ◌-◌, ◌*◌, ◌/◌, ◌≤◌, Bool, false, List, Option, None, Some}
+use Rattle.std.specs.List.{range_with_len, sum_by}
+use Rattle.qs_recv.specs.Lane.{RecvLane, step}
+use Rattle.qs_recv.specs.declared.credit.Share.{Share}
+use Rattle.qs_send.specs.Lane.{SendLane}
+use Rattle.qs_calls.specs.declared.settings.Settings.{Settings}
+use Rattle.qs_calls.specs.declared.event.Side.{Side}
+use Rattle.qs_calls.specs.declared.event.Side.TheVariants.{A, B}
+use Rattle.qs_machine.specs.Tables.{total}
+use Rattle.qs_machine.specs.Ends.{End, send_lane, recv_lane, first_window}
+use Rattle.qs_machine.specs.Credit.{all_sent}
+use Rattle.qs_runs.specs.Logs.{other, stopped, broken_off, written, read}
+use Rattle.qs_runs.specs.Worlds.{end_of}
+use Rattle.qs_rest.specs.Resting.{HasRoom}
+use Rattle.qs_progress.specs.Laps.{Moment}
+use Rattle.qs_progress.specs.Rounds.{Round}
+use Rattle.qs_progress.specs.Comes.{Course, steps_in, stretches_in, IsReached, BothOpen}
+
+-- how wide an end's windows are at least, each less its step: that of the connection, and that of each stream
+pub record Widths : Type 0 where
+  pub conn : ℕ
+  pub streams : ℕ → ℕ
+
+-- a window less its step, which is what a reader leaves of it at least, less one (RFC 9000, section 4.2)
+abbrev pub IsAsWide : (width window : ℕ) → Share → Type 0
+IsAsWide width window share = width + step share window ≤ window
+
+-- so wide are an end's windows: of the connection, of each stream that is open, and of each one that isn't yet
+pub record AreAsWide (k : Widths) (e : End) : Type 0 where
+  pub conn : IsAsWide k.conn e.present.conn_window e.tuning.credit_step
+  pub opened : (n : ℕ) (r : RecvLane) → recv_lane e n ≡ Some r → IsAsWide (k.streams n) r.window r.share
+  pub unopened : (n : ℕ) → recv_lane e n ≡ None → IsAsWide (k.streams n) (first_window e n) e.tuning.credit_step
+
+-- a round that leaves them so
+abbrev pub WideRound : (Side → Widths) → Moment → Moment → Type 0
+WideRound k old new = Round old new × ((s : Side) → AreAsWide (k s) (end_of new.ends s))
+
+-- how many bytes were sent, of a half and of a stream
+abbrev pub sent_by : Option SendLane → ℕ
+sent_by None = 0
+sent_by (Some l) = l.sent_end
+
+abbrev pub sent_on : End → ℕ → ℕ
+sent_on e n = sent_by (send_lane e n)
+
+-- how many sending halves an end has: no stream's index is as great
+abbrev pub senders : End → ℕ
+senders e = total (λ (l : SendLane). 1) e.sends
+
+-- how many such widths, and a byte more for each, an end's first sendings filled from one moment to another: of the connection, and of each
+-- of its streams
+abbrev pub filled : Widths → End → End → ℕ
+filled k old new =
+    (all_sent new - all_sent old) / suc k.conn
+    + sum_by (λ n. (sent_on new n - sent_on old n) / suc (k.streams n)) (range_with_len 0 (4 * senders new))
+
+-- all that was written was read, but on streams that were broken off or stopped
+abbrev pub IsAllRead : Moment → Type 0
+IsAllRead m = (s : Side) (n : ℕ) → broken_off s n m.log ≡ false → stopped (other s) n m.log ≡ false → read (other s) n m.log ≡ written s n m.log
+
+-- ALL IS READ. In every run, from each moment on, as long as neither end closes, and each sent fewer than 2^62 - 1 bytes: so many rounds at
+-- most begin before all that was written was read, two for each width that is filled, and three for each stretch, and three.
+abbrev pub AllIsReadInRounds : Type 0
+AllIsReadInRounds =
+    (a b : Settings) (k : Side → Widths) (parts : List Bool) (old new : Moment) → IsReached a b old → Course (WideRound k) IsAllRead parts old new →
+    BothOpen new.ends → ((s : Side) → HasRoom new.ends s) →
+    steps_in parts ≤ 2 * (filled (k B) old.ends.a new.ends.a + filled (k A) old.ends.b new.ends.b) + 3 * stretches_in parts + 3
