@@ -42,12 +42,12 @@ module _ (a b : Settings) where
     pub streams : (n : ℕ) (r : RecvLane) → receiving m.ends s n ≡ Some r → r.final_size ≡ None → first_window (end_of m.ends (other s)) n < r.limit → (l : SendLane) × (sending m.ends s n ≡ Some l) × (r.limit ≤ l.limit)
 
   pub knows : (s : Side) (m : Moment) → Landed a b (other s) m → Knows s m
-  knows A m none_out = record { conn = data_known a b B m none_out; streams = stream_known a b B m none_out }
-  knows B m none_out = record { conn = data_known a b A m none_out; streams = stream_known a b A m none_out }
+  knows A m landed = record { conn = data_known a b B m landed; streams = stream_known a b B m landed }
+  knows B m landed = record { conn = data_known a b A m landed; streams = stream_known a b A m landed }
 
   -- A turn of s, a moment at which the readers of the other end had no news, the end of that round, a turn of the other end, and one of s
   pub record Turns (s : Side) (sent seen end told again : Moment) : Type 0 where
-    pub none_out : Landed a b s sent
+    pub landed : Landed a b s sent
     pub to_seen : Later a b sent seen
     pub to_end : Later a b seen end
     pub from_sent : Later a b sent end
@@ -70,7 +70,7 @@ module _ (a b : Settings) where
       where
         go : (o : Option SendLane) → sending sent.ends s n ≡ o → value (λ (l : SendLane). l.sent_end) o ≤ value taken (receiving end.ends s n)
         go None e = omega arith
-        go (Some l) e = paid_back a b s sent x.none_out n l e seen end x.to_seen x.to_end x.from_sent (x.quiet n)
+        go (Some l) e = paid_back a b s sent x.landed n l e seen end x.to_seen x.to_end x.from_sent (x.quiet n)
 
     all_paid : all_sent (end_of sent.ends s) ≤ all_taken (end_of end.ends (other s))
     all_paid = total_le (λ (l : SendLane). l.sent_end) taken (end_of sent.ends s).sends (end_of end.ends (other s)).recvs slot_paid

@@ -73,7 +73,7 @@ module _ (a b : Settings) where
       let (there, owes) = sends a b s k mid new (end_of mid.ends s).next r_mid sent (owes_none mid r_mid s after.clear) in
       record { is_reached = there; none_to_send = λ goes. sends_all s k mid new sent (inr goes); came = λ k p here. (let (low, high) = owes.from k p here in owes.kept k low high) }
 
-  module _ (s : Side) (m : Moment) (none_out : Landed s m) where
+  module _ (s : Side) (m : Moment) (landed : Landed s m) where
     abbrev e : End
     e = end_of m.ends s
 
@@ -81,15 +81,15 @@ module _ (a b : Settings) where
     f = end_of m.ends (other s)
 
     ok : WorldOk a b m.log m.ends
-    ok = run_keeps a b m.log m.ends none_out.is_reached.run
+    ok = run_keeps a b m.log m.ends landed.is_reached.run
 
     keeps : (t : Side) → RestOk (past t m.log) (end_of m.ends t)
-    keeps = every_run_keeps a b m.log m.ends none_out.is_reached.run
+    keeps = every_run_keeps a b m.log m.ends landed.is_reached.run
 
     -- what stands in a packet that is outstanding came
     frame_came : (g : Seen) (k : ℕ) (p : Piece) → IsIn e.outstanding k p → Holds (past s m.log).mine k g → must_land g ≡ true → HasArrived m.log s g
     frame_came g k p here (fs, is, among) land =
-        let (text, pay, all) = ok.none_out s k ((ok.ends (other s)).packets.is_done k (none_out.came k p here)) in
+        let (text, pay, all) = ok.landed s k ((ok.ends (other s)).packets.is_done k (landed.came k p here)) in
         all g (subst (Among g) (same_Some fs (frames_in text) (sym is ∙ payload_seen s k m.log text pay)) among) land
 
     data_came : (n : ℕ) (c : Chunk) → IsOutstanding e (Data n c) → (bytes : List ℕ) × HasArrived m.log s (Stream n c.offset bytes c.fin) × (length bytes ≡ c.len) × (c.offset + length bytes ≤ c.offset + c.len)
@@ -112,7 +112,7 @@ module _ (a b : Settings) where
                 let (c, out, low, high) = flies.1 in
                 let (bytes, arrived, len, reach) = data_came n c out in
                 (c.offset, bytes, c.fin, arrived, low, omega (arith, high, len)))
-            | inr due ↦ (let le = half.sent_limit in absurd (none_out.none_to_send (inr (n, (l, at, inl (q, due, omega (arith, lt, le), inl lt))))))
+            | inr due ↦ (let le = half.sent_limit in absurd (landed.none_to_send (inr (n, (l, at, inl (q, due, omega (arith, lt, le), inl lt))))))
           ]
         ]
 
@@ -126,7 +126,7 @@ module _ (a b : Settings) where
                 let (k, there, known) = acked in
                 let (code, size, (j, holds, ack)) = ((keeps s).sends n k there).reset_told known in
                 (code, size, confirmed_taken a b m.log m.ends ok s j (Control (ResetStream n code size)) holds ack refl))
-            | inr due ↦ absurd (none_out.none_to_send (inl (ResetStream n reset.code reset.size, due)))
+            | inr due ↦ absurd (landed.none_to_send (inl (ResetStream n reset.code reset.size, due)))
           ]
         ]
 
@@ -145,7 +145,7 @@ module _ (a b : Settings) where
                     let (bytes, holds, len) = (ok.ends s).packets.records k ps (Data n c) there among in
                     let below = ((sender_ok a b m.log m.ends ok s n l at).told c.offset bytes c.fin (k, holds)).below in
                     absurd (omega (arith, low, high, len, below)))
-                | inr due ↦ absurd (none_out.none_to_send (inr (n, (l, at, inl (l.sent_end, due, room, inr (refl, credit))))))
+                | inr due ↦ absurd (landed.none_to_send (inr (n, (l, at, inl (l.sent_end, due, room, inr (refl, credit))))))
               ]
             ]
           ]
@@ -163,7 +163,7 @@ module _ (a b : Settings) where
           | inl flies ↦ item_taken (MaxData e.granted) refl flies
           | inr down ↦ elim down [
             | inl acked ↦ taken a b m.log m.ends ok keeps s (MaxData e.granted) ((keeps s).acked.conn e.granted acked)
-            | inr due ↦ absurd (none_out.none_to_send (inl (MaxData e.granted, due)))
+            | inr due ↦ absurd (landed.none_to_send (inl (MaxData e.granted, due)))
           ]
         ]
 
@@ -173,7 +173,7 @@ module _ (a b : Settings) where
           | inl flies ↦ item_taken (MaxStreamData n r.limit) refl flies
           | inr down ↦ elim down [
             | inl acked ↦ taken a b m.log m.ends ok keeps s (MaxStreamData n r.limit) ((keeps s).acked.streams n r.limit acked)
-            | inr due ↦ absurd (none_out.none_to_send (inl (MaxStreamData n r.limit, due)))
+            | inr due ↦ absurd (landed.none_to_send (inl (MaxStreamData n r.limit, due)))
           ]
         ]
 

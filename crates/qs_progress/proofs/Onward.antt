@@ -29,6 +29,7 @@ use Rattle.qs_runs.proofs.Lists.{Among_left}
 use Rattle.qs_runs.proofs.Stays.{each_side}
 use Rattle.qs_progress.specs.Laps.{Moment, Trail}
 use Rattle.qs_progress.specs.Comes.{IsReached}
+use Rattle.qs_progress.specs.Windows.{sent_by, senders}
 use Rattle.qs_progress.proofs.Filled.{SentMore}
 use Rattle.qs_progress.proofs.Sums.{le_same}
 use Rattle.qs_progress.proofs.Trails.{reached}

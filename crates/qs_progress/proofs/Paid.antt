@@ -72,7 +72,7 @@ open_reader r quiet no_reset no_stop = go (at_final_size r.arrived.read_count r.
 whole_size : (r : RecvLane) (size : ℕ) → r.final_size ≡ Some size → is_whole r ≡ true → (q : ℕ) → q < size → set.contains r.arrived.received q ≡ true
 whole_size r size is whole q lt = covers-is r.arrived.received 0 size (sym (ap (whole_to r.arrived.received) is) ∙ whole) q (omega arith) lt
 
-module _ (a b : Settings) (s : Side) (sent : Moment) (none_out : Landed a b s sent) (n : ℕ) (l : SendLane) (at : send_lane (end_of sent.ends s) n ≡ Some l) where
+module _ (a b : Settings) (s : Side) (sent : Moment) (landed : Landed a b s sent) (n : ℕ) (l : SendLane) (at : send_lane (end_of sent.ends s) n ≡ Some l) where
   -- at a later moment
 
   module _ (m : Moment) (later : Later a b sent m) where
@@ -99,11 +99,11 @@ module _ (a b : Settings) (s : Side) (sent : Moment) (none_out : Landed a b s se
 
         by : (o : Option Reset) → l.was_reset ≡ o → (r : RecvLane) × (receiving m.ends s n ≡ Some r) × ((set.contains r.arrived.received q ≡ true) ⊎ (is_some r.final_size ≡ true) × ((is_some r.reset_code ≡ true) ⊎ (is_whole r ≡ true)))
         by None none =
-            let (offset, bytes, fin, arrived, low, high) = offset_came a b s sent none_out n l at none q lt in
+            let (offset, bytes, fin, arrived, low, high) = offset_came a b s sent landed n l at none q lt in
             let (r, is, took, fins) = arrived_was_taken a b m.log m.ends ok s n offset bytes fin (later.arrived s (Stream n offset bytes fin) arrived) in
             (r, is, elim took [ inl all ↦ inl (all q low high) | inr reset ↦ inr (sized r is reset, inl reset) ])
         by (Some reset) e =
-            let (code, size, arrived) = reset_came a b s sent none_out n l reset at e in
+            let (code, size, arrived) = reset_came a b s sent landed n l reset at e in
             let here = later.arrived s (Control (ResetStream n code size)) arrived in
             let (r, is, final) = arrived_reset_was_taken a b m.log m.ends ok s n code size here in
             let (t, there, ended) = All_at (ItemTaken (end_of m.ends (other s))) (past (other s) m.log).taken (Control (ResetStream n code size)) (every_run_keeps a b m.log m.ends later.is_reached.run (other s)).taken here in

@@ -69,7 +69,7 @@ module _ (a b : Settings) where
 
   -- a turn of one end, and a moment at which the other's readers had no news
   pub record Half (s : Side) (old sent new : Moment) : Type 0 where
-    pub none_out : Landed a b s sent
+    pub landed : Landed a b s sent
     pub to_sent : Later a b old sent
     pub unwritten : Unwritten sent new
     pub to_new : Later a b sent new
@@ -118,7 +118,7 @@ module _ (a b : Settings) where
         let by = seen_by B in
         let on = then_on round.sent_a round.sent_b new (turn_on B round.sent_a round.sent_b round.turn_b) reads in
         record {
-          none_out = a_landed;
+          landed = a_landed;
           to_sent = to_a;
           unwritten = on;
           to_new = led_to round.sent_a new a_landed.is_reached on;
@@ -132,7 +132,7 @@ module _ (a b : Settings) where
     b_half =
         let by = seen_by A in
         record {
-          none_out = b_landed;
+          landed = b_landed;
           to_sent = later_twice a b old round.sent_a round.sent_b to_a a_to_b;
           unwritten = reads;
           to_new = led_to round.sent_b new b_landed.is_reached reads;
@@ -153,7 +153,7 @@ module _ (a b : Settings) where
     ok = run_keeps a b new.log new.ends half.to_new.is_reached.run
 
     ok_sent : WorldOk a b sent.log sent.ends
-    ok_sent = run_keeps a b sent.log sent.ends half.none_out.is_reached.run
+    ok_sent = run_keeps a b sent.log sent.ends half.landed.is_reached.run
 
     same_bytes : written s n new.log ≡ written s n sent.log
     same_bytes = written_same half.unwritten.0 sent new half.unwritten.1 s n
@@ -164,11 +164,11 @@ module _ (a b : Settings) where
       where
         by_read : (l : SendLane) → sending sent.ends s n ≡ Some l → length (written s n new.log) ≤ l.sent_end → (k : SendLane) → sending new.ends s n ≡ Some k → k.was_reset ≡ None → (o : Option RecvLane) → receiving new.ends s n ≡ o → length (written s n new.log) ≤ length (read (other s) n new.log)
         by_read l at few k there none None e =
-            let paid : l.sent_end ≤ 0 = subst (λ o. l.sent_end ≤ value taken o) e (paid_back a b s sent half.none_out n l at half.seen new half.to_seen half.from_seen half.to_new (half.quiet n)) in
+            let paid : l.sent_end ≤ 0 = subst (λ o. l.sent_end ≤ value taken o) e (paid_back a b s sent half.landed n l at half.seen new half.to_seen half.from_seen half.to_new (half.quiet n)) in
             omega (arith, few, paid)
         by_read l at few k there none (Some r) e =
             let count : length (read (other s) n new.log) ≡ r.arrived.read_count = (reader_ok a b new.log new.ends ok s n r e).count in
-            elim (has_read a b s sent half.none_out n l at half.seen new half.to_seen half.from_seen half.to_new (half.quiet n) r e) [
+            elim (has_read a b s sent half.landed n l at half.seen new half.to_seen half.from_seen half.to_new (half.quiet n) r e) [
               | inl reset ↦ absurd (true≢false (sym reset ∙ ap is_some (no_reset_known a b new.log new.ends ok s n k r there e none)))
               | inr more ↦ elim more [
                 | inl quit ↦ absurd (true≢false (sym quit ∙ ap is_some ((reader_ok a b new.log new.ends ok s n r e).not_stopped going)))
@@ -296,29 +296,29 @@ module _ (a b : Settings) where
       a_turns : Turns a b A x1.0.sent_a a1.seen m1 x2.0.sent_b x3.0.sent_a
       a_turns =
           record {
-            none_out = a1.none_out;
+            landed = a1.landed;
             to_seen = a1.to_seen;
             to_end = a1.from_seen;
             from_sent = a1.to_new;
             quiet = a1.quiet;
             to_told = b2.to_sent;
-            knows_all = knows a b A x2.0.sent_b b2.none_out;
+            knows_all = knows a b A x2.0.sent_b b2.landed;
             to_again = later_twice a b x2.0.sent_b m2 x3.0.sent_a b2.to_new a3.to_sent;
-            lands = a3.none_out;
+            lands = a3.landed;
           }
 
       b_turns : Turns a b B x1.0.sent_b b1.seen m1 x2.0.sent_a x3.0.sent_b
       b_turns =
           record {
-            none_out = b1.none_out;
+            landed = b1.landed;
             to_seen = b1.to_seen;
             to_end = b1.from_seen;
             from_sent = b1.to_new;
             quiet = b1.quiet;
             to_told = a2.to_sent;
-            knows_all = knows a b B x2.0.sent_a a2.none_out;
+            knows_all = knows a b B x2.0.sent_a a2.landed;
             to_again = later_twice a b x2.0.sent_a m2 x3.0.sent_b a2.to_new b3.to_sent;
-            lands = b3.none_out;
+            lands = b3.landed;
           }
 
       a_between : Later a b x1.0.sent_a x3.0.sent_a
