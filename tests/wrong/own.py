@@ -44,7 +44,7 @@ def makes_lanes(tool):
 
 
 def tries_side_by_side(tool):
-    """Where 17 GB are free, three lanes of up to 4.8 GB go on at once, and the others once these have ended."""
+    """Where the memory of three lanes and a half is free, three go on at once, and the others once these have ended."""
     together, going_on, most = threading.Barrier(3), [], []
 
     def settle(_repository, _crate, number):
@@ -55,7 +55,8 @@ def tries_side_by_side(tool):
         return number
 
     kept = tool.settle, tool.number_in
-    tool.settle, tool.number_in = settle, lambda file, _: 17 * GB if file == "/proc/meminfo" else 0
+    free = 7 * tool.MEMORY[Crate.name] // 2
+    tool.settle, tool.number_in = settle, lambda file, _: free if file == "/proc/meminfo" else 0
     try:
         ended = list(tool.in_lanes(Ready(), [(Crate, number) for number in range(6)], 4))
     except threading.BrokenBarrierError:
@@ -65,12 +66,12 @@ def tries_side_by_side(tool):
 
 
 def reckons_room(tool):
-    """Of 20 GB that are free, two lanes of 5 GB take 4 GB more where they have 6, and a check of the gate takes as much as the largest."""
+    """Of 20 GB that are free, two lanes of 5 GB take 4 GB more where they have 6, and a proof of the gate takes more."""
     kept = tool.number_in, tool.Trial.running
     tool.number_in, tool.Trial.running = lambda file, _: 20 * GB if file == "/proc/meminfo" else 3 * GB, {1, 2}
     found = [tool.room_beside([5 * GB] * 2, goes_on) for goes_on in (False, True)]
     tool.number_in, tool.Trial.running = kept
-    return found == [16 * GB, 16 * GB - max(tool.MEMORY.values())]
+    return found == [16 * GB, 16 * GB - tool.MEMORY_OF_GATE]
 
 
 def failures(tool):
