@@ -248,6 +248,7 @@ mod tests {
             settings,
             tuning: Tuning::default(),
             most_window: 0,
+            connections: 1,
             idle,
         }
     }

@@ -9,6 +9,7 @@ pub struct Fault {
 }
 
 pub const INTERNAL_ERROR: u64 = 0x01;
+pub const CONNECTION_REFUSED: u64 = 0x02;
 pub const FRAME_ENCODING_ERROR: u64 = 0x07;
 pub const TRANSPORT_PARAMETER_ERROR: u64 = 0x08;
 pub const CONNECTION_ID_LIMIT_ERROR: u64 = 0x09;

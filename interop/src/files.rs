@@ -1,20 +1,29 @@
 //! The files of a folder, as servers give them out.
 
 use crate::streams::Body;
-use std::ffi::OsStr;
-use std::fs::File;
+use nix::dir::{Dir, OwningIter, Type};
+use nix::errno::Errno;
+use std::ffi::{CString, OsStr, c_int};
+use std::fs::{File, OpenOptions};
 use std::io::{self, ErrorKind, Seek, SeekFrom};
 use std::ops::Range;
-use std::os::unix::ffi::{OsStrExt, OsStringExt};
+use std::os::fd::{AsRawFd, FromRawFd, IntoRawFd};
+use std::os::unix::ffi::OsStrExt;
+use std::os::unix::fs::OpenOptionsExt;
 use std::path::{Path, PathBuf};
+use std::sync::Arc;
 use std::time::SystemTime;
 
 /// As servers of pages have it.
 const INDEX: &str = "index.html";
 
+/// More names aren't sorted, and are read as they go.
+const MOST_SORTED: usize = 1000;
+
 #[derive(Clone, Debug)]
 pub struct Folder {
-    root: PathBuf,
+    root: Arc<File>,
+    path: Arc<PathBuf>,
 }
 
 #[derive(Debug)]
@@ -31,21 +40,33 @@ pub struct Listed {
     pub is_folder: bool,
 }
 
+/// What stands in a folder; not what is hidden, nor what can't be given out.
+#[derive(Debug)]
+pub struct Names {
+    folder: Folder,
+    path: PathBuf,
+    entries: OwningIter,
+}
+
 #[derive(Debug)]
 pub enum Named {
     File(Found),
     /// A folder whose path lacks its last slash, so that relative links on its page would lead elsewhere: the reference to it.
     Folder(String),
-    /// A folder without a page.
-    Listing(Vec<Listed>),
+    /// A folder without a page: its names in order, or the first ones, and those behind them.
+    Listing(Vec<Listed>, Option<Names>),
 }
 
 impl Folder {
     /// # Errors
     pub fn open(root: &str) -> io::Result<Folder> {
-        let root = Path::new(root).canonicalize()?;
-        match root.is_dir() {
-            true => Ok(Folder { root }),
+        let path = Path::new(root).canonicalize()?;
+        let root = File::open(&path)?;
+        match root.metadata()?.is_dir() {
+            true => Ok(Folder {
+                root: Arc::new(root),
+                path: Arc::new(path),
+            }),
             false => Err(ErrorKind::NotADirectory.into()),
         }
     }
@@ -57,29 +78,26 @@ impl Folder {
     /// Where there is nothing, or the path leads out of the folder; [`is_exhausted`] tells those of the system.
     pub fn named(&self, path: &[u8]) -> io::Result<Named> {
         let path = path.split(|byte| b"?#".contains(byte)).next();
-        let path = path.unwrap_or_default();
-        let mut file = self.root.clone();
-        let mut last = &[][..];
-        for part in path.split(|byte| *byte == b'/') {
+        let (mut within, mut last) = (PathBuf::new(), &[][..]);
+        for part in path.unwrap_or_default().split(|byte| *byte == b'/') {
             let name = decoded(part).ok_or(ErrorKind::NotFound)?;
-            let is_first = file == self.root;
+            let is_first = within.as_os_str().is_empty();
             if is_hidden(&name, is_first) || name.contains(&b'/') || name.contains(&0) {
                 return Err(ErrorKind::NotFound.into());
             }
-            file.push(OsStr::from_bytes(&name));
+            within.push(OsStr::from_bytes(&name));
             last = part;
         }
-        let file = self.within(&file)?;
-        if !file.is_dir() {
-            return open(&file).map(Named::File);
+        if last.is_empty() {
+            return match self.file(&within.join(INDEX)) {
+                Ok(Some(index)) => Ok(Named::File(index)),
+                Ok(None) => self.list(within),
+                Err(error) if is_absent(&error) => self.list(within),
+                Err(error) => Err(error),
+            };
         }
-        match last {
-            [] => match self.within(&file.join(INDEX)) {
-                Ok(index) if !index.is_dir() => open(&index).map(Named::File),
-                _ => list(self, &file).map(Named::Listing),
-            },
-            name => Ok(Named::Folder(format!("./{}/", name.escape_ascii()))),
-        }
+        let found = self.file(&within)?.map(Named::File);
+        Ok(found.unwrap_or_else(|| Named::Folder(format!("./{}/", last.escape_ascii()))))
     }
 
     ///
@@ -87,15 +105,90 @@ impl Folder {
     ///
     /// Those of [`Folder::named`].
     pub fn plain(&self, path: &str) -> io::Result<Found> {
-        open(&self.within(&self.root.join(path.trim_start_matches('/')))?)
+        match self.named(path.as_bytes())? {
+            Named::File(found) => Ok(found),
+            _ => Err(ErrorKind::NotFound.into()),
+        }
     }
 
-    // Links are followed only while they stay in the folder: what is given out is the folder's.
-    fn within(&self, path: &Path) -> io::Result<PathBuf> {
-        let path = path.canonicalize()?;
-        match path.starts_with(&self.root) {
-            true => Ok(path),
-            false => Err(ErrorKind::NotFound.into()),
+    // `None` where it is a folder. Of a pipe or a device nothing is given out: that could wait, or not end.
+    fn file(&self, path: &Path) -> io::Result<Option<Found>> {
+        let file = self.within(path, libc::O_NONBLOCK)?;
+        let about = file.metadata()?;
+        match (about.is_file(), about.is_dir()) {
+            (true, _) => Ok(Some(Found {
+                file,
+                len: about.len(),
+                modified: about.modified()?,
+                kind: kind(path),
+            })),
+            (_, true) => Ok(None),
+            _ => Err(ErrorKind::NotFound.into()),
+        }
+    }
+
+    // Links are followed only while they stay in the folder: what is given out is the folder's. Where the kernel doesn't look after that, or
+    // finds a link that begins with `/`, the path without links tells.
+    fn within(&self, path: &Path, flags: c_int) -> io::Result<File> {
+        let path = match path.as_os_str() {
+            path if path.is_empty() => Path::new("."),
+            _ => path,
+        };
+        let opened = open_beneath(&self.root, path, flags);
+        let is_unsure = |code| [libc::EXDEV, libc::ENOSYS, libc::EPERM].contains(&code);
+        match opened {
+            Err(error) if error.raw_os_error().is_some_and(is_unsure) => {
+                let path = self.path.join(path).canonicalize()?;
+                if !path.starts_with(&*self.path) {
+                    return Err(ErrorKind::NotFound.into());
+                }
+                OpenOptions::new().read(true).custom_flags(flags).open(path)
+            }
+            opened => opened,
+        }
+    }
+
+    fn list(&self, path: PathBuf) -> io::Result<Named> {
+        let file = self.within(&path, libc::O_DIRECTORY)?;
+        let mut names = Names {
+            folder: self.clone(),
+            path,
+            entries: Dir::from_fd(file.into_raw_fd())?.into_iter(),
+        };
+        let mut first: Vec<Listed> = names.by_ref().take(MOST_SORTED + 1).collect();
+        let is_all = first.len() <= MOST_SORTED;
+        if is_all {
+            first.sort();
+        }
+        Ok(Named::Listing(first, (!is_all).then_some(names)))
+    }
+}
+
+impl Iterator for Names {
+    type Item = Listed;
+
+    fn next(&mut self) -> Option<Listed> {
+        loop {
+            let entry = self.entries.next()?.ok()?;
+            let name = entry.file_name().to_bytes();
+            let path = self.path.join(OsStr::from_bytes(name));
+            let is_folder = match entry.file_type() {
+                _ if name.starts_with(b".") => None,
+                Some(Type::Directory) => Some(true),
+                Some(Type::File) => Some(false),
+                // (where a link leads to)
+                Some(Type::Symlink) | None => {
+                    let about = self.folder.within(&path, libc::O_PATH);
+                    let about = about.and_then(|file| file.metadata()).ok();
+                    let about = about.filter(|about| about.is_dir() || about.is_file());
+                    about.map(|about| about.is_dir())
+                }
+                Some(_) => None,
+            };
+            if let Some(is_folder) = is_folder {
+                let name = name.to_vec();
+                return Some(Listed { name, is_folder });
+            }
         }
     }
 }
@@ -106,24 +199,33 @@ impl Found {
     ///
     /// Of a file that has no such place.
     pub fn body(mut self, range: Range<u64>) -> io::Result<Body> {
-        self.file.seek(SeekFrom::Start(range.start))?;
+        if range.start > 0 {
+            self.file.seek(SeekFrom::Start(range.start))?;
+        }
         Ok(Body::new(self.file, range.end - range.start))
     }
 }
 
-// A pipe or a device isn't opened: that could wait, or not end.
-fn open(path: &Path) -> io::Result<Found> {
-    if !path.is_file() {
-        return Err(ErrorKind::NotFound.into());
+fn open_beneath(root: &File, path: &Path, flags: c_int) -> io::Result<File> {
+    #[repr(C)]
+    struct How {
+        flags: u64,
+        mode: u64,
+        resolve: u64,
     }
-    let file = File::open(path)?;
-    let about = file.metadata()?;
-    Ok(Found {
-        file,
-        len: about.len(),
-        modified: about.modified()?,
-        kind: kind(path),
-    })
+    let how = How {
+        flags: (flags | libc::O_RDONLY | libc::O_CLOEXEC | libc::O_NOCTTY) as u64,
+        mode: 0,
+        resolve: libc::RESOLVE_BENEATH,
+    };
+    let path = CString::new(path.as_os_str().as_bytes())?;
+    let (root, len) = (root.as_raw_fd(), size_of::<How>());
+    // Sound: the path ends with a zero, and the kernel reads so many bytes of what stands behind it.
+    let opened =
+        unsafe { libc::syscall(libc::SYS_openat2, root, path.as_ptr(), &raw const how, len) };
+    let opened = Errno::result(opened)?;
+    // Sound: no one else has it.
+    Ok(unsafe { File::from_raw_fd(opened as c_int) })
 }
 
 /// Then the client may ask again, where "there is none" would be final.
@@ -132,6 +234,10 @@ pub fn is_exhausted(error: &io::Error) -> bool {
         error.raw_os_error(),
         Some(libc::EMFILE | libc::ENFILE | libc::ENOMEM)
     )
+}
+
+fn is_absent(error: &io::Error) -> bool {
+    matches!(error.kind(), ErrorKind::NotFound | ErrorKind::NotADirectory)
 }
 
 // What begins with a dot isn't given out, but for what hosts are asked for (RFC 8615).
@@ -147,23 +253,6 @@ fn kind(path: &Path) -> String {
         ("text", _) => format!("{}; charset=utf-8", guess.essence_str()),
         _ => guess.essence_str().to_owned(),
     }
-}
-
-// What stands in a folder, by name; not what begins with a dot, nor what leads out.
-fn list(folder: &Folder, path: &Path) -> io::Result<Vec<Listed>> {
-    let mut listed = Vec::new();
-    for entry in path.read_dir()? {
-        let entry = entry?;
-        let name = entry.file_name().into_vec();
-        if !name.starts_with(b".")
-            && let Ok(path) = folder.within(&entry.path())
-        {
-            let is_folder = path.is_dir();
-            listed.push(Listed { name, is_folder });
-        }
-    }
-    listed.sort();
-    Ok(listed)
 }
 
 // A part of a path, with what stands there as % and two digits; `None` where no two digits follow.
@@ -196,13 +285,20 @@ mod tests {
     impl Room {
         fn new(name: &str) -> Room {
             let room = std::env::temp_dir().join(format!("{name}-{}", std::process::id()));
-            std::fs::create_dir_all(room.join("files/sub")).unwrap();
+            for folder in ["files/sub/.well-known", "files/.well-known"] {
+                std::fs::create_dir_all(room.join(folder)).unwrap();
+            }
             for (file, text) in [
                 ("secret", "no"),
                 ("files/a b%.SVG", "picture"),
                 ("files/index.html", "top"),
                 ("files/sub/index.html", "sub"),
                 ("files/plain", "?"),
+                ("files/.hidden", "no"),
+                ("files/sub/.hidden", "no"),
+                ("files/sub/.well-known/a", "no"),
+                ("files/.well-known/.hidden", "no"),
+                ("files/.well-known/a", "yes"),
             ] {
                 std::fs::write(room.join(file), text).unwrap();
             }
@@ -265,7 +361,7 @@ mod tests {
         std::fs::remove_file(root.join("index.html")).unwrap();
         std::fs::write(root.join(".hidden"), "no").unwrap();
         let folder = Folder::open(root.to_str().unwrap()).unwrap();
-        let Ok(Named::Listing(listed)) = folder.named(b"/") else {
+        let Ok(Named::Listing(listed, None)) = folder.named(b"/") else {
             panic!();
         };
         let names: Vec<&[u8]> = listed.iter().map(|listed| listed.name.as_slice()).collect();
@@ -301,6 +397,7 @@ mod tests {
             assert!(folder.plain(path).is_err(), "{path}");
         }
         assert!(folder.plain("/plain").is_ok());
+        assert!(folder.plain("/.well-known/a").is_ok());
         assert!(Folder::open("/no/such/folder").is_err());
     }
 }

@@ -42,8 +42,8 @@ impl Entry {
         self.len
     }
 
-    pub fn whole(&self) {
-        self.write(self.len, "whole");
+    pub fn whole(&self, written: u64) {
+        self.write(self.len.min(written), "whole");
     }
 
     /// A half of the stream was broken off, by whichever end, after so many bytes of the answer.

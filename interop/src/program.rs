@@ -162,6 +162,16 @@ impl Words {
         rest.map_err(|_| Refusal::Usage(format!("{count} words where {N} are expected")))
     }
 
+    /// How many connections a server has at most: `--connections N`.
+    pub fn connections(&mut self) -> Result<usize, Refusal> {
+        match self.number("connections", 10_000)? {
+            0 => Err(Refusal::Usage(
+                "a server has 1 connection at least".to_owned(),
+            )),
+            count => Ok(usize::try_from(count).unwrap_or(usize::MAX)),
+        }
+    }
+
     /// The version that a client tries first: `--quic-version HEX`.
     pub fn quic_version(&mut self) -> Result<u32, Refusal> {
         match self.option("quic-version") {
@@ -275,16 +285,21 @@ pub fn config(words: &mut Words) -> Result<Config, Refusal> {
         tuning: Tuning::default(),
         most_window,
         idle: Duration::from_secs(idle),
+        connections: 1,
     })
 }
 
 /// What a server of files makes its connections with. A write takes what the client grants alone, so that an answer which no one reads
 /// keeps little, and one that is read isn't held up by those.
-pub fn serving(config: Config) -> Config {
+pub fn serving(config: Config, words: &mut Words) -> Result<Config, Refusal> {
     let tuning = Tuning::default()
         .within_credit(true)
         .send_window(Some(budget::OF_CONNECTION));
-    Config { tuning, ..config }
+    Ok(Config {
+        tuning,
+        connections: words.connections()?,
+        ..config
+    })
 }
 
 /// A panic of one ends the program, so that no server goes on with half its threads.

@@ -1,7 +1,7 @@
 //! A server: many connections on one socket.
 
 use crate::connection::{Config, Connection, DATAGRAM, Path};
-use crate::fault::{Close, Fault, INTERNAL_ERROR, Outcome};
+use crate::fault::{CONNECTION_REFUSED, Close, Fault, INTERNAL_ERROR, Outcome};
 use crate::log;
 use crate::memory;
 use crate::packet::{
@@ -12,8 +12,9 @@ use crate::socket::{MOST_DATAGRAM, Socket};
 use crate::stop::Stop;
 use crate::streams::Application;
 use crate::timers::Timers;
+use nix::time::{ClockId, clock_gettime};
 use rustls::ServerConfig;
-use std::collections::{BTreeSet, HashMap};
+use std::collections::{BTreeSet, HashMap, VecDeque};
 use std::io::{self, ErrorKind};
 use std::net::{SocketAddr, UdpSocket};
 use std::os::fd::RawFd;
@@ -26,6 +27,9 @@ use std::time::{Duration, Instant};
 pub const BATCH: usize = 64;
 
 const LEAST_FIRST_ID: usize = 8;
+
+/// How long the busy ones go on in a turn, before what came for the others is looked at.
+const TURN: Duration = Duration::from_millis(1);
 
 /// A server that is asked to stop ends soon, whatever its clients do.
 const GRACE: Duration = Duration::from_millis(300);
@@ -42,8 +46,10 @@ pub struct Server<A> {
     timers: Timers,
     ids: HashMap<ConnectionId, u64>,
     next: u64,
-    busy: BTreeSet<u64>,
+    /// Those with more to do, each behind the ones that had their turn before.
+    busy: VecDeque<u64>,
     phase: Phase,
+    longest: Duration,
 }
 
 #[derive(Clone, Copy, PartialEq, Eq)]
@@ -215,6 +221,11 @@ impl<A> Table<A> {
     }
 }
 
+// Of this thread: what others take of the machine doesn't count.
+fn processor_time() -> Duration {
+    clock_gettime(ClockId::CLOCK_THREAD_CPUTIME_ID).map_or(Duration::ZERO, Duration::from)
+}
+
 impl<A: Application> Server<A> {
     pub fn new(
         socket: UdpSocket,
@@ -237,8 +248,9 @@ impl<A: Application> Server<A> {
             timers: Timers::default(),
             ids: HashMap::new(),
             next: 0,
-            busy: BTreeSet::new(),
+            busy: VecDeque::new(),
             phase: Phase::Serves,
+            longest: Duration::ZERO,
         })
     }
 
@@ -252,6 +264,8 @@ impl<A: Application> Server<A> {
         while !stop.is_asked() {
             self.turn(self.waits_until(), &mut out)?;
         }
+        let longest = self.longest.as_secs_f64() * 1e3;
+        program::tell_more(&format!("the longest turn took {longest:.1} ms"));
         self.stop(&mut out)
     }
 
@@ -277,12 +291,13 @@ impl<A: Application> Server<A> {
         }
     }
 
-    // Waits until something comes, or until a time. Lets the connections go on that are concerned, or whose time is up, or that are
-    // busy.
+    // Waits until something comes, or until a time. Lets the connections go on that are concerned, or whose time is up, and then, for a
+    // while, those that are busy: who asks for little doesn't wait for who asks for much.
     fn turn(&mut self, until: Option<Instant>, out: &mut Vec<u8>) -> io::Result<()> {
         let socket = self.socket.clone();
-        let mut concerned = std::mem::take(&mut self.busy);
+        let mut concerned = BTreeSet::new();
         socket.wait(until, self.wake)?;
+        let begin = processor_time();
         let mut buffer = std::mem::take(&mut self.buffer);
         // Where a client's socket is gone its silence tells.
         _ = receive_batch(&socket, &mut buffer, |datagram, from| {
@@ -290,11 +305,25 @@ impl<A: Application> Server<A> {
         });
         self.buffer = buffer;
         concerned.extend(self.timers_are_up());
-        for key in concerned {
-            if self.go_on(key, out) {
-                self.busy.insert(key);
+        let was_busy: BTreeSet<u64> = self.busy.iter().copied().collect();
+        for key in concerned.difference(&was_busy) {
+            if self.go_on(*key, out) {
+                self.busy.push_back(*key);
             }
         }
+        let since = Instant::now();
+        for _ in 0..was_busy.len() {
+            let Some(key) = self.busy.pop_front() else {
+                break;
+            };
+            if self.go_on(key, out) {
+                self.busy.push_back(key);
+            }
+            if since.elapsed() >= TURN {
+                break;
+            }
+        }
+        self.longest = self.longest.max(processor_time().saturating_sub(begin));
         Ok(())
     }
 
@@ -324,11 +353,17 @@ impl<A: Application> Server<A> {
             _ = self.socket.send(out, from);
             return None;
         }
-        self.begin(&packet, datagram, from)
+        self.begin(&packet, datagram, from, out)
     }
 
     // Only an Initial that authenticates begins a connection: of others no state is kept, so that anybody's datagrams fill no memory.
-    fn begin(&mut self, packet: &Packet, datagram: &mut [u8], from: Path) -> Option<u64> {
+    fn begin(
+        &mut self,
+        packet: &Packet,
+        datagram: &mut [u8],
+        from: Path,
+        out: &mut Vec<u8>,
+    ) -> Option<u64> {
         let is_initial = packet.kind == Kind::Protected(Level::Initial);
         if self.phase != Phase::Serves {
             return None;
@@ -339,10 +374,19 @@ impl<A: Application> Server<A> {
         let now = Instant::now();
         let (destination, source) = (packet.destination, packet.source);
         let tls = self.tls.clone();
+        let is_full = self.served.places.len() >= self.config.connections;
         let mut connection = Connection::server(tls, self.config, destination, source, now)
             .inspect_err(|fault| log::tell(format_args!("no connection: {fault}")))
             .ok()?;
         let peer = from.peer;
+        if is_full {
+            let refused = Fault::new(CONNECTION_REFUSED, 0, "too many connections");
+            connection.refuse(from, datagram.len(), refused, now);
+            let to = connection.send(out, now)?;
+            // Where it is lost, the client asks again.
+            _ = self.socket.send(out, to);
+            return None;
+        }
         apart(peer, || connection.receive(datagram, from, now))?;
         if !connection.has_peer() {
             return None;
@@ -441,6 +485,7 @@ mod tests {
                 tuning: Tuning::default(),
                 most_window: 0,
                 idle: Duration::from_secs(30),
+                connections: 100,
             };
             let socket = UdpSocket::bind("127.0.0.1:0").unwrap();
             let tls = server_config(Identity::new().unwrap(), &[PROTOCOL]).unwrap();
@@ -539,6 +584,29 @@ mod tests {
             said[0].ends_with(" the server has a fault: of the test"),
             "{said:?}"
         );
+    }
+
+    #[test]
+    fn a_client_too_many_is_refused() {
+        let mut world = World::new();
+        world.server.config.connections = 1;
+        _ = world.client(Nothing);
+        let server = world.server.socket.local_addr().unwrap();
+        let mut second = Client {
+            socket: connect(server).unwrap(),
+            connection: client(PROTOCOL, "localhost", VERSION_1, world.config).unwrap(),
+            application: Nothing,
+            sent: 0,
+        };
+        while second.connection.outcome().is_none() {
+            world.step(&mut second);
+        }
+        let told = Outcome::PeerClosed {
+            by_application: false,
+            code: CONNECTION_REFUSED,
+            reason: "too many connections".to_owned(),
+        };
+        assert_eq!(second.connection.outcome(), Some(&told));
     }
 
     #[test]

@@ -75,14 +75,21 @@ const PIECE: u64 = 1 << 14;
 
 /// The bytes of an answer or a request, read in pieces as the stream takes them.
 pub struct Body {
-    source: Box<dyn io::Read>,
+    source: Source,
     left: u64,
+}
+
+enum Source {
+    /// So many bytes as are left.
+    Bytes(Box<dyn io::Read>),
+    /// To its end.
+    Pieces(Box<dyn Iterator<Item = String>>),
 }
 
 impl Body {
     pub fn new(source: impl io::Read + 'static, len: u64) -> Body {
         Body {
-            source: Box::new(source),
+            source: Source::Bytes(Box::new(source)),
             left: len,
         }
     }
@@ -92,15 +99,36 @@ impl Body {
         Body::new(io::Cursor::new(bytes), len)
     }
 
+    pub fn of_pieces(pieces: impl Iterator<Item = String> + 'static) -> Body {
+        Body {
+            source: Source::Pieces(Box::new(pieces)),
+            left: u64::MAX,
+        }
+    }
+
     ///
     /// # Errors
     ///
     /// Of the source, which may have become shorter than it was.
     pub fn next_piece(&mut self) -> io::Result<Vec<u8>> {
-        let mut piece = vec![0; self.left.min(PIECE) as usize];
-        self.source.read_exact(&mut piece)?;
-        self.left -= piece.len() as u64;
-        Ok(piece)
+        match &mut self.source {
+            Source::Bytes(source) => {
+                let mut piece = vec![0; self.left.min(PIECE) as usize];
+                source.read_exact(&mut piece)?;
+                self.left -= piece.len() as u64;
+                Ok(piece)
+            }
+            Source::Pieces(pieces) => {
+                let mut whole = String::new();
+                while whole.len() < PIECE as usize && self.left > 0 {
+                    match pieces.next() {
+                        Some(piece) => whole += &piece,
+                        None => self.left = 0,
+                    }
+                }
+                Ok(whole.into_bytes())
+            }
+        }
     }
 
     pub fn is_over(&self) -> bool {

@@ -45,6 +45,7 @@ fn ask(mut words: Words) -> Result<(), Refusal> {
         settings,
         tuning: Tuning::default(),
         most_window: 0,
+        connections: 1,
         idle,
     };
     let make = || client(PROTOCOL, "localhost", version, config);

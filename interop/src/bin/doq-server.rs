@@ -14,7 +14,7 @@ use std::time::Duration;
 
 fn main() -> ExitCode {
     program::run(
-        "doq-server [--cert FILE --key FILE | --identity FOLDER] [--streams N] [--lifetime N] ZONEFILE ADDR",
+        "doq-server [--cert FILE --key FILE | --identity FOLDER] [--streams N] [--lifetime N] [--connections N] ZONEFILE ADDR",
         serve,
     )
 }
@@ -22,6 +22,7 @@ fn main() -> ExitCode {
 fn serve(mut words: Words) -> Result<(), Refusal> {
     let identity = words.identity()?;
     let (at_once, lifetime) = streams(&mut words)?;
+    let connections = words.connections()?;
     let [file, address] = words.exactly()?;
     let text = std::fs::read_to_string(&file)
         .map_err(|error| Refusal::Failure(format!("{file} can't be read: {error}")))?;
@@ -39,6 +40,7 @@ fn serve(mut words: Words) -> Result<(), Refusal> {
         settings,
         tuning: Tuning::default(),
         most_window: 0,
+        connections,
         idle: Duration::from_secs(30),
     };
     let socket = listen(&address)?;

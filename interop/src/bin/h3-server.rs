@@ -15,13 +15,14 @@ use std::process::ExitCode;
 
 fn main() -> ExitCode {
     program::run(
-        "h3-server [--cert FILE --key FILE | --identity FOLDER] [--window BYTES] [--stream-window BYTES] [--most-window BYTES] [--streams N] [--lifetime N] [--idle SECONDS] DIR ADDR..",
+        "h3-server [--cert FILE --key FILE | --identity FOLDER] [--window BYTES] [--stream-window BYTES] [--most-window BYTES] [--streams N] [--lifetime N] [--connections N] [--idle SECONDS] DIR ADDR..",
         serve,
     )
 }
 
 fn serve(mut words: Words) -> Result<(), Refusal> {
-    let config = serving(config(&mut words)?);
+    let config = config(&mut words)?;
+    let config = serving(config, &mut words)?;
     let identity = words.identity()?;
     let [root, addresses @ ..] = words.rest.as_slice() else {
         return Err(Refusal::Usage(

@@ -10,13 +10,14 @@ use std::process::ExitCode;
 
 fn main() -> ExitCode {
     program::run(
-        "raw-server [--cert FILE --key FILE | --identity FOLDER] [--window BYTES] [--stream-window BYTES] [--most-window BYTES] [--streams N] [--lifetime N] [--idle SECONDS] DIR ADDR",
+        "raw-server [--cert FILE --key FILE | --identity FOLDER] [--window BYTES] [--stream-window BYTES] [--most-window BYTES] [--streams N] [--lifetime N] [--connections N] [--idle SECONDS] DIR ADDR",
         serve,
     )
 }
 
 fn serve(mut words: Words) -> Result<(), Refusal> {
-    let config = serving(config(&mut words)?);
+    let config = config(&mut words)?;
+    let config = serving(config, &mut words)?;
     let identity = words.identity()?;
     let [root, address] = words.exactly()?;
     let folder = Folder::open(&root)

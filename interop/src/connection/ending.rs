@@ -1,6 +1,6 @@
 //! Timers, and how a connection ends (RFC 9000, section 10).
 
-use super::Connection;
+use super::{Connection, Path};
 use crate::crypto::push_frame;
 use crate::fault::{APPLICATION_ERROR, Close, Fault, INTERNAL_ERROR, Outcome};
 use crate::packet::Level;
@@ -122,6 +122,12 @@ impl Connection {
             self.outcome = Some(Outcome::Failed(fault));
             self.begin_closing(now);
         }
+    }
+
+    /// Answers a first datagram of so many bytes by that alone.
+    pub fn refuse(&mut self, from: Path, bytes: usize, fault: Fault, now: Instant) {
+        self.comes(from, bytes);
+        self.fail(fault, now);
     }
 
     /// Nothing more comes of it.

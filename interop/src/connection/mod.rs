@@ -52,6 +52,8 @@ pub struct Config {
     /// How far the window of a stream may grow by itself.
     pub most_window: u64,
     pub idle: Duration,
+    /// How many a server has at most.
+    pub connections: usize,
 }
 
 #[derive(Clone)]

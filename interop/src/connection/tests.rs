@@ -41,6 +41,7 @@ impl World {
             settings,
             tuning: Tuning::default(),
             most_window: 0,
+            connections: 1,
             idle,
         };
         World::of(config, lost)
@@ -52,6 +53,7 @@ impl World {
             settings,
             tuning: Tuning::default(),
             most_window: 0,
+            connections: 1,
             idle: Duration::from_secs(30),
         };
         World::of(config, 0)
@@ -567,6 +569,7 @@ fn sends_over_a_long_way(most_window: u64) -> Duration {
         settings,
         tuning: Tuning::default(),
         most_window,
+        connections: 1,
         idle,
     };
     let mut world = World::of(config, 0);

@@ -1,14 +1,14 @@
 //! Requests for files, and what they are answered with: whole, a part (RFC 9110, section 14), or not again (section 13).
 
 use super::session::Field;
-use crate::files::{Folder, Found, Listed, Named, is_exhausted};
+use crate::files::{Folder, Found, Listed, Named, Names, is_exhausted};
 use crate::log::tell;
 use crate::streams::Body;
 use html_escape::encode_text;
 use httpdate::{fmt_http_date, parse_http_date};
 use percent_encoding::{AsciiSet, NON_ALPHANUMERIC, percent_encode};
-use std::fmt::Write as _;
 use std::io::{self, ErrorKind};
+use std::iter::once;
 use std::ops::Range;
 use std::time::{SystemTime, UNIX_EPOCH};
 
@@ -18,6 +18,8 @@ const ESCAPED: &AsciiSet = &NON_ALPHANUMERIC
     .remove(b'.')
     .remove(b'_')
     .remove(b'~');
+
+const HTML: &str = "text/html; charset=utf-8";
 
 #[derive(Default)]
 pub struct Request {
@@ -77,7 +79,8 @@ impl Request {
                 let to = format!("{to}{}", query.escape_ascii());
                 Ok(Answer::of("301", &[("location", &to)]))
             }
-            Ok(Named::Listing(listed)) => Ok(self.page("200", listing(&self.path, &listed))),
+            Ok(Named::Listing(listed, None)) => Ok(self.page("200", listing(&self.path, listed))),
+            Ok(Named::Listing(first, Some(rest))) => Ok(self.long_page(first, rest)),
             Err(error) => Err(error),
         };
         answered.unwrap_or_else(|error| match is_exhausted(&error) {
@@ -97,9 +100,20 @@ impl Request {
     }
 
     fn page(&self, status: &'static str, html: String) -> Answer {
-        let mut answer = Answer::of(status, &[("content-type", "text/html; charset=utf-8")]);
+        let mut answer = Answer::of(status, &[("content-type", HTML)]);
         answer.len = Some(html.len() as u64);
         answer.body = (self.method == b"GET").then(|| Body::of_bytes(html.into_bytes()));
+        answer
+    }
+
+    // Its names go as they are read, so that a folder of many holds no one up.
+    fn long_page(&self, first: Vec<Listed>, rest: Names) -> Answer {
+        let mut answer = Answer::of("200", &[("content-type", HTML)]);
+        let [head, tail] = around(&self.path);
+        let names = first.into_iter().chain(rest).map(|listed| entry(&listed));
+        let pieces = once(head).chain(names).chain(once(tail));
+        answer.len = None;
+        answer.body = (self.method == b"GET").then(|| Body::of_pieces(pieces));
         answer
     }
 
@@ -202,10 +216,10 @@ impl Answer {
         self.fields.push(field(name, value));
     }
 
-    /// How many bytes of the body go: none of HEAD.
+    /// How many bytes of the body go at most: none of HEAD.
     pub fn sent_len(&self) -> u64 {
         match self.body {
-            Some(_) => self.len.unwrap_or(0),
+            Some(_) => self.len.unwrap_or(u64::MAX),
             None => 0,
         }
     }
@@ -260,19 +274,27 @@ fn page(title: &str, body: &str) -> String {
     format!("<!doctype html>\n<meta charset=\"utf-8\">\n<title>{title}</title>\n{body}\n")
 }
 
-fn listing(path: &[u8], listed: &[Listed]) -> String {
+// What stands before the names of a folder, and behind them.
+fn around(path: &[u8]) -> [String; 2] {
     let path = String::from_utf8_lossy(path);
     let title = encode_text(&path);
-    let mut body = format!("<h1>{title}</h1>\n<ul>");
-    for Listed { name, is_folder } in listed {
-        let slash = if *is_folder { "/" } else { "" };
-        let link = percent_encode(name, ESCAPED);
-        let name = String::from_utf8_lossy(name);
-        let name = encode_text(&name);
-        _ = write!(body, "\n<li><a href=\"./{link}{slash}\">{name}{slash}</a>");
-    }
-    body.push_str("\n</ul>");
-    page(&title, &body)
+    let page = page(&title, &format!("<h1>{title}</h1>\n<ul>\0\n</ul>"));
+    let (head, tail) = page.split_once('\0').unwrap_or((&page, ""));
+    [head.to_owned(), tail.to_owned()]
+}
+
+fn entry(Listed { name, is_folder }: &Listed) -> String {
+    let slash = if *is_folder { "/" } else { "" };
+    let link = percent_encode(name, ESCAPED);
+    let name = String::from_utf8_lossy(name);
+    let name = encode_text(&name);
+    format!("\n<li><a href=\"./{link}{slash}\">{name}{slash}</a>")
+}
+
+fn listing(path: &[u8], listed: Vec<Listed>) -> String {
+    let [head, tail] = around(path);
+    let names: String = listed.iter().map(entry).collect();
+    format!("{head}{names}{tail}")
 }
 
 #[cfg(test)]
@@ -304,10 +326,45 @@ mod tests {
     }
 
     #[test]
+    fn what_a_client_expects_of_a_file_is_looked_at() {
+        let folder = Folder::open(env!("CARGO_MANIFEST_DIR")).unwrap();
+        let answer = |name: &str, value: &str| {
+            let mut request = Request::default();
+            for (name, value) in [(":method", "GET"), (":path", "/Cargo.toml"), (name, value)] {
+                request.take(field(name, value));
+            }
+            request.answer(&folder)
+        };
+        let plain = answer("x", "");
+        let told = |name: &str| {
+            let found = plain
+                .fields
+                .iter()
+                .find(|(told, _)| told == name.as_bytes());
+            String::from_utf8(found.unwrap().1.clone()).unwrap()
+        };
+        let (tag, modified) = (told("etag"), told("last-modified"));
+        let long_ago = "Thu, 01 Jan 1970 00:00:00 GMT";
+        for (name, value, wanted) in [
+            ("if-match", tag.as_str(), "200"),
+            ("if-match", "*", "200"),
+            ("if-match", "\"another\"", "412"),
+            // A weak tag names no file (RFC 9110, section 8.8.3.2).
+            ("if-match", &format!("W/{tag}"), "412"),
+            ("if-unmodified-since", &modified, "200"),
+            ("if-unmodified-since", long_ago, "412"),
+            ("if-unmodified-since", "no date", "200"),
+            ("if-none-match", &format!("W/{tag}"), "304"),
+        ] {
+            assert_eq!(answer(name, value).status, wanted, "{name}: {value}");
+        }
+    }
+
+    #[test]
     fn a_listing_is_escaped() {
         let name = b"<b> & \"'%:?#\xff".to_vec();
         let is_folder = true;
-        let html = listing(b"/<sub>/", &[Listed { name, is_folder }]);
+        let html = listing(b"/<sub>/", vec![Listed { name, is_folder }]);
         assert!(html.contains("<h1>/&lt;sub&gt;/</h1>"));
         assert!(html.contains("href=\"./%3Cb%3E%20%26%20%22%27%25%3A%3F%23%FF/\""));
         assert!(

@@ -203,7 +203,7 @@ impl FileServer {
                 return true;
             };
             match (send.state, send.reset_code) {
-                (SendState::DataRecvd, _) => entry.whole(),
+                (SendState::DataRecvd, _) => entry.whole(send.written),
                 (_, Some(code)) => entry.broken(code, send.written),
                 _ => return true,
             }
