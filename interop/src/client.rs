@@ -4,7 +4,7 @@ use crate::connection::Connection;
 use crate::fault::{Close, Outcome};
 use crate::program::{Refusal, tell_more};
 use crate::server::{receive_batch, turn};
-use crate::socket::{MOST_DATAGRAM, Socket};
+use crate::socket::{MOST_DATAGRAM, Outbox, Socket};
 use crate::streams::Application;
 use gotsavena::Endpoint;
 use std::io::{self, ErrorKind};
@@ -105,8 +105,9 @@ pub fn connect_often(
 
 fn go_on(socket: &Socket, connection: &mut Connection) {
     let now = Instant::now();
-    turn(connection, &mut Nothing, &mut Vec::new(), |bytes, to| {
-        socket.send(bytes, to)
+    let out = &mut Outbox::default();
+    turn(connection, &mut Nothing, out, |bytes, size, to| {
+        socket.send(bytes, size, to)
     });
     receive_batch(socket, &mut [0; MOST_DATAGRAM], |datagram, from| {
         connection.receive(datagram, from, now);
@@ -190,11 +191,11 @@ fn run_until<A: Application>(
     application: &mut A,
     mut patience: Patience,
 ) -> io::Result<Outcome> {
-    let (mut out, mut buffer) = (Vec::new(), vec![0; MOST_DATAGRAM]);
+    let (mut out, mut buffer) = (Outbox::default(), vec![0; MOST_DATAGRAM]);
     loop {
         let mut is_refused = false;
-        let more = turn(connection, application, &mut out, |bytes, to| {
-            let sent = socket.send(bytes, to);
+        let more = turn(connection, application, &mut out, |bytes, size, to| {
+            let sent = socket.send(bytes, size, to);
             is_refused |= is_refusal(&sent);
             sent
         });

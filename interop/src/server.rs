@@ -8,7 +8,7 @@ use crate::packet::{
     ConnectionId, Kind, Level, Packet, VERSION_1, read_packet, version_negotiation,
 };
 use crate::program;
-use crate::socket::{MOST_DATAGRAM, Socket};
+use crate::socket::{MOST_DATAGRAM, Outbox, Socket};
 use crate::stop::Stop;
 use crate::streams::Application;
 use crate::timers::Timers;
@@ -82,9 +82,15 @@ pub fn receive_batch(
     mut take: impl FnMut(&mut [u8], Path),
 ) -> bool {
     let mut is_refused = false;
-    for _ in 0..BATCH {
+    let mut count = 0;
+    while count < BATCH {
         match socket.receive(buffer) {
-            Ok((len, from)) => take(&mut buffer[..len], from),
+            Ok((len, size, from)) => {
+                for datagram in buffer[..len].chunks_mut(size) {
+                    take(datagram, from);
+                }
+                count += len.div_ceil(size).max(1);
+            }
             Err(error) => match error.kind() {
                 ErrorKind::WouldBlock => break,
                 ErrorKind::ConnectionRefused => is_refused = true,
@@ -101,8 +107,8 @@ pub fn receive_batch(
 pub fn turn<A: Application>(
     connection: &mut Connection,
     application: &mut A,
-    out: &mut Vec<u8>,
-    mut transmit: impl FnMut(&[u8], Path) -> io::Result<()>,
+    out: &mut Outbox,
+    mut transmit: impl FnMut(&[u8], usize, Path) -> io::Result<()>,
 ) -> bool {
     let now = Instant::now();
     if let Some(end) = connection.end()
@@ -111,15 +117,20 @@ pub fn turn<A: Application>(
         connection.close(close, now);
     }
     application.prioritize(connection.priorities());
+    let mut more = true;
     for _ in 0..BATCH {
-        let Some(to) = connection.send(out, now) else {
-            return false;
+        let Some(to) = connection.send(&mut out.datagram, now) else {
+            more = false;
+            break;
         };
-        if transmit(out, to).is_err_and(|error| error.raw_os_error() == Some(libc::EMSGSIZE)) {
-            connection.was_too_large(out.len());
+        if let Some(size) = out.push(to, &mut transmit) {
+            connection.was_too_large(size);
         }
     }
-    true
+    if let Some(size) = out.flush(&mut transmit) {
+        connection.was_too_large(size);
+    }
+    more
 }
 
 fn part<A: Application>(phase: Phase, connection: &mut Connection, application: &mut A) {
@@ -184,11 +195,11 @@ impl<A: Application> Served<A> {
     }
 
     // Answers whether there is more.
-    fn go_on(&mut self, phase: Phase, socket: &Socket, out: &mut Vec<u8>) -> bool {
+    fn go_on(&mut self, phase: Phase, socket: &Socket, out: &mut Outbox) -> bool {
         let connection = &mut self.connection;
         part(phase, connection, &mut self.application);
-        let more = turn(connection, &mut self.application, out, |bytes, to| {
-            socket.send(bytes, to)
+        let more = turn(connection, &mut self.application, out, |bytes, size, to| {
+            socket.send(bytes, size, to)
         });
         if let (Some(outcome), false) = (connection.outcome(), self.was_told) {
             self.was_told = true;
@@ -260,7 +271,7 @@ impl<A: Application> Server<A> {
 
     pub fn run(&mut self, stop: &Stop) -> io::Result<()> {
         self.wake = stop.wake();
-        let mut out = Vec::new();
+        let mut out = Outbox::default();
         while !stop.is_asked() {
             self.turn(self.waits_until(), &mut out)?;
         }
@@ -270,7 +281,7 @@ impl<A: Application> Server<A> {
     }
 
     // Tells all clients. A connection ends once nothing is under way on it, and all within a second.
-    fn stop(&mut self, out: &mut Vec<u8>) -> io::Result<()> {
+    fn stop(&mut self, out: &mut Outbox) -> io::Result<()> {
         self.wake = None;
         let begin = Instant::now();
         for (phase, time) in [(Phase::Stops, GRACE), (Phase::Closes, 2 * GRACE)] {
@@ -293,7 +304,7 @@ impl<A: Application> Server<A> {
 
     // Waits until something comes, or until a time. Lets the connections go on that are concerned, or whose time is up, and then, for a
     // while, those that are busy: who asks for little doesn't wait for who asks for much.
-    fn turn(&mut self, until: Option<Instant>, out: &mut Vec<u8>) -> io::Result<()> {
+    fn turn(&mut self, until: Option<Instant>, out: &mut Outbox) -> io::Result<()> {
         let socket = self.socket.clone();
         let mut concerned = BTreeSet::new();
         socket.wait(until, self.wake)?;
@@ -339,7 +350,7 @@ impl<A: Application> Server<A> {
     }
 
     // A datagram came: it belongs to a connection, or begins one.
-    fn take(&mut self, datagram: &mut [u8], from: Path, out: &mut Vec<u8>) -> Option<u64> {
+    fn take(&mut self, datagram: &mut [u8], from: Path, out: &mut Outbox) -> Option<u64> {
         let packet = read_packet(datagram)?;
         if let Some(key) = self.ids.get(&packet.destination) {
             let served = self.served.get(*key)?;
@@ -347,10 +358,9 @@ impl<A: Application> Server<A> {
             return Some(*key);
         }
         if packet.version != VERSION_1 && packet.version != 0 && datagram.len() >= DATAGRAM {
-            out.clear();
-            out.extend(version_negotiation(&packet));
+            let answer = version_negotiation(&packet);
             // Where it is lost, the client asks again.
-            _ = self.socket.send(out, from);
+            _ = self.socket.send(&answer, answer.len(), from);
             return None;
         }
         self.begin(&packet, datagram, from, out)
@@ -362,7 +372,7 @@ impl<A: Application> Server<A> {
         packet: &Packet,
         datagram: &mut [u8],
         from: Path,
-        out: &mut Vec<u8>,
+        out: &mut Outbox,
     ) -> Option<u64> {
         let is_initial = packet.kind == Kind::Protected(Level::Initial);
         if self.phase != Phase::Serves {
@@ -382,9 +392,9 @@ impl<A: Application> Server<A> {
         if is_full {
             let refused = Fault::new(CONNECTION_REFUSED, 0, "too many connections");
             connection.refuse(from, datagram.len(), refused, now);
-            let to = connection.send(out, now)?;
+            let to = connection.send(&mut out.datagram, now)?;
             // Where it is lost, the client asks again.
-            _ = self.socket.send(out, to);
+            _ = self.socket.send(&out.datagram, out.datagram.len(), to);
             return None;
         }
         apart(peer, || connection.receive(datagram, from, now))?;
@@ -407,7 +417,7 @@ impl<A: Application> Server<A> {
         Some(key)
     }
 
-    fn go_on(&mut self, key: u64, out: &mut Vec<u8>) -> bool {
+    fn go_on(&mut self, key: u64, out: &mut Outbox) -> bool {
         let Some(served) = self.served.get(key) else {
             return false;
         };
@@ -511,15 +521,15 @@ mod tests {
 
         fn step<A: Application>(&mut self, client: &mut Client<A>) {
             let connection = &mut client.connection;
-            let mut out = Vec::new();
-            let transmit = |bytes: &[u8], _| {
-                client.sent += 1;
-                client.socket.send(bytes, Path::default())
+            let mut out = Outbox::default();
+            let transmit = |bytes: &[u8], size, to| {
+                client.sent += bytes.len().div_ceil(size) as u64;
+                client.socket.send(bytes, size, to)
             };
             turn(connection, &mut client.application, &mut out, transmit);
             let now = Some(Instant::now());
             self.server.turn(now, &mut out).unwrap();
-            receive_batch(&client.socket, &mut [0; 2048], |datagram, from| {
+            receive_batch(&client.socket, &mut [0; MOST_DATAGRAM], |datagram, from| {
                 connection.receive(datagram, from, Instant::now());
             });
             let now = Instant::now();
@@ -637,9 +647,9 @@ mod tests {
         let mut client = world.client(Nothing);
         // (its handshake is over at both ends)
         (0..20).for_each(|_| world.step(&mut client));
-        world.server.stop(&mut Vec::new()).unwrap();
+        world.server.stop(&mut Outbox::default()).unwrap();
         let connection = &mut client.connection;
-        receive_batch(&client.socket, &mut [0; 2048], |datagram, from| {
+        receive_batch(&client.socket, &mut [0; MOST_DATAGRAM], |datagram, from| {
             connection.receive(datagram, from, Instant::now());
         });
         let told = Outcome::PeerClosed {
