@@ -12,9 +12,9 @@ use Rattle.qs_progress.proofs.Sums.{sum_grows}
 -- so many whole parts are no more than there is
 whole_parts : (a k : ℕ) → a / suc k * suc k ≤ a
 whole_parts a k = elim (cases_lt a (a / suc k * suc k)) [
-    | inl lt ↦ (let less : a / suc k < a / suc k = div_below a (suc k) (a / suc k) (omega arith) lt in absurd (omega (arith, less)))
-    | inr le ↦ le
-  ]
+  | inl lt ↦ (let less : a / suc k < a / suc k = div_below a (suc k) (a / suc k) (omega arith) lt in absurd (omega (arith, less)))
+  | inr le ↦ le
+]
 
 pub parts_grow : (a b k : ℕ) → a ≤ b → a / suc k ≤ b / suc k
 parts_grow a b k le = le-div (a / suc k) b (suc k) (omega arith) (let whole = whole_parts a k in omega (arith, le, whole))
@@ -72,6 +72,6 @@ module _ (k : Widths) (old : End) (count : ℕ) (e f : End) (more : SentMore e f
   stream_fills n lt low fills =
       let conn = conn_grows in
       let streams =
-          sum_more (λ n. (sent_on e n - sent_on old n) / suc (k.streams n)) (λ n. (sent_on f n - sent_on old n) / suc (k.streams n)) 0 count n stream_grows (omega arith) (omega (arith, lt))
-          (parts_more (sent_on e n - sent_on old n) (sent_on f n - sent_on old n) (k.streams n) (omega (arith, low, fills))) in
+      sum_more (λ n. (sent_on e n - sent_on old n) / suc (k.streams n)) (λ n. (sent_on f n - sent_on old n) / suc (k.streams n)) 0 count n stream_grows (omega arith) (omega (arith, lt))
+      (parts_more (sent_on e n - sent_on old n) (sent_on f n - sent_on old n) (k.streams n) (omega (arith, low, fills))) in
       omega (arith, conn, streams)

@@ -226,8 +226,8 @@ module _ (a b : Settings) where
                 stream_fills (k (other s)) (end_of begun.ends s) (4 * senders (end_of last.ends s)) (end_of sent.ends s) (end_of again.ends s) grows n (omega (arith, counted, few)) (sooner.each n)
                 (stream_charged a b s sent seen end told again x (k (other s)) wide room_now n l at none more blocked))
             | inr blocked ↦
-              conn_fills (k (other s)) (end_of begun.ends s) (4 * senders (end_of last.ends s)) (end_of sent.ends s) (end_of again.ends s) grows sooner.all
-              (conn_charged a b s sent seen end told again x (k (other s)) wide room_now blocked)
+                conn_fills (k (other s)) (end_of begun.ends s) (4 * senders (end_of last.ends s)) (end_of sent.ends s) (end_of again.ends s) grows sooner.all
+                (conn_charged a b s sent seen end told again x (k (other s)) wide room_now blocked)
           ]
 
       pub fills_or_none : filled_by s again ≤ filled_by s sent → NoneLeft s again
