@@ -51,9 +51,10 @@ CADDY
 
 # The command of each server.
 command_of() {
-  local pem="$identity/cert.pem $identity/key.pem"
+  local pem="$identity/cert.pem $identity/key.pem" windows='--window 20000 --stream-window 8192 --streams 16'
   case $1 in
-    ours) echo "$built/quick/gotsavena-sink --cert $identity/cert.pem --key $identity/key.pem 127.0.0.1:{port}" ;;
+    ours) echo "$built/quick/gotsavena-sink $windows --cert $identity/cert.pem --key $identity/key.pem 127.0.0.1:{port}" ;;
+    our-client) echo "$built/quick/gotsavena-sink $windows --connect 127.0.0.1:{port}" ;;
     # (2 GB: what is past a count may make it take on streams without end)
     quinn) echo "ulimit -v 2000000; exec $built/quick/quinn-sink 127.0.0.1:{port} $pem" ;;
     quic-go) echo "$built/quick/quic-go-sink 127.0.0.1:{port} $pem" ;;

@@ -5,7 +5,7 @@ mod fields;
 mod owed;
 
 use crate::seen::Seen;
-use crate::wire::{frame, stream_frame, stream_number};
+use crate::wire::{byte_at, frame, stream_frame, stream_number};
 use gotsavena::{Dir, Role, StreamId};
 use std::collections::BTreeMap;
 
@@ -53,6 +53,8 @@ pub enum Step {
     Both(Payload, Payload),
     /// All of a stream, so that it is over.
     Over(Number, u64),
+    /// The endpoint's own half of a stream may end, and is waited for a moment.
+    MayEnd(Number),
     /// Up to the stream's limit, in order, so that what is read has to be granted again.
     FillStream(Dir),
     Owes(Owed),
@@ -76,6 +78,8 @@ pub enum Need {
     SmallLimit(Whose, Dir),
     /// The connection's credit is used up by few streams.
     Credit,
+    /// It is a server: a client has other identifiers of connections, as its peer gave them.
+    Server,
     /// It permits at least so many streams.
     Streams(u64),
     /// It permits no more than can be opened soon.
@@ -121,7 +125,7 @@ impl Context<'_> {
 
     // Where HTTP/3 reads them they are a request, or what it ignores: frames and streams of type 0x21 (RFC 9114, sections 6.2.3 and 7.2.8).
     fn byte(&self, stream: u64, at: u64) -> u8 {
-        let plain = (at as u8).wrapping_add(stream as u8);
+        let plain = byte_at(stream, at);
         if !self.is_http {
             return plain;
         }
@@ -174,7 +178,7 @@ fn plain(payload: Vec<u8>) -> Step {
 }
 
 impl Case {
-    fn new(name: impl Into<String>, steps: Vec<Step>) -> Case {
+    pub fn new(name: impl Into<String>, steps: Vec<Step>) -> Case {
         Case {
             name: name.into(),
             steps,

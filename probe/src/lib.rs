@@ -6,6 +6,7 @@ pub mod mirror;
 pub mod options;
 pub mod outcome;
 pub mod play;
+pub mod random;
 pub mod report;
 pub mod run;
 pub mod seen;

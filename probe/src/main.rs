@@ -3,6 +3,7 @@
 use gotsavena_probe::cases::{self, Case};
 use gotsavena_probe::options::{self, Options, Target, Task, USAGE};
 use gotsavena_probe::outcome::Class;
+use gotsavena_probe::random::Script;
 use gotsavena_probe::report::{self, About, Difference, News};
 use gotsavena_probe::run::{Judged, Run};
 use gotsavena_probe::vectors;
@@ -61,7 +62,13 @@ fn probe(options: &Options) -> Result<u8, Ends> {
             .map_err(|reason| Ends(WRONG_WORDS, reason))?,
         None => Vec::new(),
     };
-    let cases = picked(options)?;
+    let scripts: Vec<Script> = match options.random {
+        Some((seed, count)) => (seed..seed.saturating_add(count))
+            .map(Script::new)
+            .collect(),
+        None => Vec::new(),
+    };
+    let cases = picked(options, &scripts)?;
     let is_quiet = [&options.json, &options.junit]
         .iter()
         .any(|file| is_stdout(file.as_deref()));
@@ -72,7 +79,8 @@ fn probe(options: &Options) -> Result<u8, Ends> {
     };
     let not_judged = |reason| Ends(NOT_JUDGED, reason);
     let run = Run::new(options, &cases, &tell).map_err(not_judged)?;
-    let judged = run.all();
+    let mut judged = run.all();
+    run.shrink(&mut judged, &scripts);
     drop(run);
     finish(options, &judged, &known, is_quiet)
 }
@@ -82,8 +90,9 @@ fn is_stdout(file: Option<&Path>) -> bool {
 }
 
 // Without words all; a word that fits no case is a mistake.
-fn picked(options: &Options) -> Result<Vec<Case>, Ends> {
+fn picked(options: &Options, scripts: &[Script]) -> Result<Vec<Case>, Ends> {
     let mut all = cases::all();
+    all.extend(scripts.iter().map(Script::case));
     if options.cases.is_empty() {
         return Ok(all);
     }
@@ -118,6 +127,7 @@ fn finish(
         write(file, &report::junit(&about, judged, &news))?;
     }
     if !is_quiet {
+        tell_scripts(judged);
         tell_all(judged, &news);
     }
     enough(options, judged)?;
@@ -143,6 +153,18 @@ fn enough(options: &Options, judged: &[Judged]) -> Result<(), Ends> {
         return Err(Ends(NOT_JUDGED, reason));
     }
     Ok(())
+}
+
+// What is left of each script that differs.
+fn tell_scripts(judged: &[Judged]) {
+    for one in judged {
+        if one.name.starts_with("random/") && one.outcome.class.is_difference() {
+            say(&format!("{} made smaller:", one.name));
+            for played in &one.payloads {
+                say(&format!("  {}  {}", played.hex, played.permitted));
+            }
+        }
+    }
 }
 
 fn tell_all(judged: &[Judged], news: &News) {

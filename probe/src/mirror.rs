@@ -5,7 +5,7 @@
 //! not, and a stream that is over need not be remembered. Each is made by playing all again, since an endpoint can't be copied.
 
 use crate::verdicts::{Closes, Permit, Word, by_hand, row_of};
-use crate::wire::{self, frame, stream_frame};
+use crate::wire::{self, byte_at, frame, stream_frame};
 use gotsavena::{
     Endpoint, Frame, PeerLimits, Read, ReceiveFault, RecvState, Role, SendState, Settings,
     StreamId, frames,
@@ -42,6 +42,8 @@ enum Variant {
     Wide,
     /// No final size is known.
     Endless,
+    /// A frame without bytes touches its offset.
+    Touching,
 }
 
 pub struct Mirror {
@@ -134,7 +136,7 @@ impl Mirror {
         };
         let wide = self.replay(Variant::Wide, before);
         let over = |stream| is_over(&wide, stream);
-        let touch = come(Variant::Plain, &rewritten(payload, touching));
+        let touch = come(Variant::Touching, &rewritten(payload, touching));
         let Some(plain) = come(Variant::Plain, payload) else {
             if let Some(permit) = self.of_transport(before, payload) {
                 return permit;
@@ -190,7 +192,7 @@ impl Mirror {
                 .conn_window(CONN_WINDOW)
                 .stream_windows(STREAM_WINDOW)
                 .streams(STREAMS.0, STREAMS.1),
-            Variant::Plain | Variant::Endless => Settings::default()
+            _ => Settings::default()
                 .conn_window(grants.max_data.clamp(1, CONN_WINDOW))
                 .bidi_local_window(cut(grants.bidi_local))
                 .bidi_remote_window(cut(grants.bidi_remote))
@@ -213,6 +215,9 @@ impl Mirror {
         let closes = match event {
             Event::Came(number, payload) if variant == Variant::Endless => {
                 received(end, *number, &rewritten(payload, endless))
+            }
+            Event::Came(number, payload) if variant == Variant::Touching => {
+                received(end, *number, &rewritten(payload, touching))
             }
             Event::Came(number, payload) => received(end, *number, payload),
             Event::Went(number, payload) => {
@@ -491,7 +496,10 @@ fn touching(frame: &Frame<'_>) -> Option<Vec<u8>> {
             offset,
             fin: false,
             bytes: [],
-        } if offset > 0 => Some(stream_frame(stream.value(), offset - 1, &[0], false)),
+        } if offset > 0 => {
+            let byte = byte_at(stream.value(), offset - 1);
+            Some(stream_frame(stream.value(), offset - 1, &[byte], false))
+        }
         _ => None,
     }
 }

@@ -16,6 +16,8 @@ use std::time::{Duration, Instant};
 const PATIENCE: Duration = Duration::from_millis(1500);
 /// A PING may be lost: so often another goes.
 const PING: Duration = Duration::from_millis(200);
+/// How long an application may take to give up what its peer reset.
+const MOMENT: Duration = Duration::from_millis(150);
 /// At most so much is sent to use a limit up, in payloads of the second size.
 const SMALL_LIMIT: u64 = 1 << 15;
 const PIECE: u64 = 1000;
@@ -95,6 +97,10 @@ impl Player {
                 let stream = stream(&self.context());
                 self.over(stream, *len)
             }
+            Step::MayEnd(stream) => {
+                let stream = stream(&self.context());
+                self.may_end(stream)
+            }
             Step::FillStream(dir) => self.fill(self.context().id(Whose::Peers, *dir, 0)),
             Step::Owes(owed) => self.owes(*owed),
             Step::Quiet(is_quiet) => {
@@ -133,7 +139,7 @@ impl Player {
             Need::Own(dir) => own_stream(seen, *dir).is_some(),
             _ => true,
         };
-        let until = Instant::now() + Duration::from_millis(500);
+        let until = Instant::now() + PATIENCE;
         while Instant::now() < until && !case.needs.iter().all(|need| wanted(&self.seen, need)) {
             self.hear();
         }
@@ -164,6 +170,7 @@ impl Player {
                 let counts = self.seen.count(Dir::Uni) > MOST_TO_FILL + 1;
                 (is_met && counts, "its credit isn't used up by few streams")
             }
+            Need::Server => (self.role == gotsavena::Role::Server, "it is a client"),
             Need::FewStreams => (
                 self.seen
                     .max_streams
@@ -297,6 +304,22 @@ impl Player {
         if !self.is_quiet {
             self.link.acknowledge();
         }
+        match self.settle() {
+            Out::GoesOn => None,
+            out => self.judge(String::new(), Permit::taken(), out),
+        }
+    }
+
+    // (so that it doesn't depend on the application's pace whether the stream is over)
+    fn may_end(&mut self, stream: u64) -> Option<Outcome> {
+        let until = Instant::now() + MOMENT;
+        let has_ended = |seen: &Seen| {
+            seen.resets.contains_key(&stream) || seen.streams.get(&stream).is_some_and(|at| at.fin)
+        };
+        while stream & 2 == 0 && Instant::now() < until && !has_ended(&self.seen) {
+            self.hear();
+        }
+        self.link.acknowledge();
         match self.settle() {
             Out::GoesOn => None,
             out => self.judge(String::new(), Permit::taken(), out),

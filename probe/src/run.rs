@@ -5,12 +5,16 @@ use crate::link::{Link, Way};
 use crate::options::{Options, Target};
 use crate::outcome::{Class, Outcome};
 use crate::play::{Played, Player};
+use crate::random::Script;
 use crate::subject::{Client, Server};
 use std::net::SocketAddr;
 use std::sync::Mutex;
 use std::sync::atomic::{AtomicUsize, Ordering};
 use std::thread;
 use std::time::Instant;
+
+/// So often a script that differs is played to make it smaller.
+const MOST_PLAYS: usize = 200;
 
 #[derive(Clone, Debug)]
 pub struct Judged {
@@ -111,6 +115,30 @@ impl<'a> Run<'a> {
         judged
     }
 
+    /// Of the scripts that differ, the payloads that are enough for that.
+    pub fn shrink(&self, judged: &mut [Judged], scripts: &[Script]) {
+        for script in scripts {
+            let name = script.case().name;
+            let found = judged.iter_mut().find(|one| one.name == name);
+            let Some(one) = found.filter(|one| one.outcome.class.is_difference()) else {
+                continue;
+            };
+            let mut left = MOST_PLAYS;
+            script.clone().shrunk(|less| {
+                if left == 0 {
+                    return false;
+                }
+                left -= 1;
+                let play = self.play(&less.case());
+                let is_same = play.outcome == one.outcome;
+                if is_same {
+                    one.payloads = play.payloads;
+                }
+                is_same
+            });
+        }
+    }
+
     fn judged(&self, case: &Case, play: Play, begin: Instant) -> Judged {
         let outcome = match play.has_ended {
             true => Outcome::new(Class::Ended, "its process ends"),
@@ -130,12 +158,17 @@ impl<'a> Run<'a> {
     fn play(&self, case: &Case) -> Play {
         match &self.subject {
             Subject::Address(address) => {
-                self.over(Link::to(*address, &self.way, case.is_tight), case, || false)
+                self.over(Link::to(*address, &self.way, case.is_tight), case)
             }
             Subject::Server(server) => {
                 let (address, times) = server.address();
                 let link = Link::to(address, &self.way, case.is_tight);
-                let mut play = self.over(link, case, || server.has_ended(times));
+                let mut play = self.over(link, case);
+                if play.outcome.class == Class::Silent {
+                    // Some end only as the next one comes.
+                    _ = Link::to(address, &self.way, false);
+                }
+                play.has_ended = server.has_ended(times);
                 // One that is silent, or can't be reached, may be busy for ever: that isn't the next case's doing.
                 if matches!(play.outcome.class, Class::NotRun | Class::Silent) {
                     server.begin_anew(times);
@@ -146,31 +179,27 @@ impl<'a> Run<'a> {
             Subject::Client(command) => match Client::begin(command, &self.way, case.is_tight) {
                 // A client may end as its connection does.
                 Ok((mut client, link)) => {
-                    let mut play = self.over(Ok(link), case, || false);
+                    let mut play = self.over(Ok(link), case);
                     play.has_ended = play.outcome.class == Class::Silent && client.has_ended();
                     play
                 }
-                Err(reason) => self.over(Err(reason), case, || false),
+                Err(reason) => self.over(Err(reason), case),
             },
         }
     }
 
-    fn over(&self, link: Result<Link, String>, case: &Case, has_ended: impl Fn() -> bool) -> Play {
-        match link {
+    fn over(&self, link: Result<Link, String>, case: &Case) -> Play {
+        let (outcome, payloads) = match link {
             Ok(link) => {
                 let mut player = Player::new(link, self.way.alpn == "h3");
-                let outcome = player.play(case);
-                Play {
-                    outcome,
-                    payloads: std::mem::take(&mut player.played),
-                    has_ended: has_ended(),
-                }
+                (player.play(case), std::mem::take(&mut player.played))
             }
-            Err(reason) => Play {
-                outcome: Outcome::new(Class::NotRun, reason),
-                payloads: Vec::new(),
-                has_ended: has_ended(),
-            },
+            Err(reason) => (Outcome::new(Class::NotRun, reason), Vec::new()),
+        };
+        Play {
+            outcome,
+            payloads,
+            has_ended: false,
         }
     }
 }

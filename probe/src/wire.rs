@@ -47,6 +47,11 @@ pub fn stream_frame(stream: u64, offset: u64, bytes: &[u8], fin: bool) -> Vec<u8
     out
 }
 
+/// The byte at an offset of a stream, where no application has to read it.
+pub fn byte_at(stream: u64, offset: u64) -> u8 {
+    (offset as u8).wrapping_add(stream as u8)
+}
+
 pub fn stream_number(initiator: Role, dir: Dir, index: u64) -> u64 {
     StreamId::from_parts(initiator, dir, index).map_or(MOST, StreamId::value)
 }

@@ -1,17 +1,19 @@
-//! gotsavena-sink [--cert FILE --key FILE] ADDR: over our streams what each sink of `peers/` does. It reads and drops every stream,
-//! answers "ok" on each bidirectional one that ends, and opens one stream of either direction with "hi". Its windows are 8,192 bytes a
-//! stream and 20,000 in all, for 16 streams of either direction.
+//! gotsavena-sink ADDR, or gotsavena-sink --connect ADDR for a client: over our streams what each sink of `peers/` does. It reads and drops
+//! every stream, answers "ok" on each bidirectional one that ends, and opens one stream of either direction with "hi". Its windows are
+//! options, as of raw-server.
 
-use gotsavena::{Dir, Endpoint, Read, Settings, StreamId, Tuning};
+use gotsavena::{Dir, Endpoint, Read, StreamId};
+use gotsavena_interop::client::visit;
 use gotsavena_interop::connection::Config;
 use gotsavena_interop::fault::Close;
+use gotsavena_interop::packet::VERSION_1;
 use gotsavena_interop::program::{self, Refusal, Words, listen};
+use gotsavena_interop::raw::PROTOCOL;
 use gotsavena_interop::server::Server;
 use gotsavena_interop::stop::Stop;
 use gotsavena_interop::streams::{Application, abandon};
 use gotsavena_interop::tls::server_config;
 use std::process::ExitCode;
-use std::time::Duration;
 
 /// The code with which a stream's answer is given up.
 const GIVEN_UP: u64 = 9;
@@ -61,23 +63,30 @@ fn drain(end: &mut Endpoint, stream: StreamId) {
 }
 
 fn main() -> ExitCode {
-    program::run("gotsavena-sink [--cert FILE --key FILE] ADDR", serve)
+    program::run(
+        "gotsavena-sink [--cert FILE --key FILE | --connect] [--window BYTES] [--stream-window BYTES] [--streams N] ADDR",
+        run,
+    )
 }
 
-fn serve(mut words: Words) -> Result<(), Refusal> {
+fn run(mut words: Words) -> Result<(), Refusal> {
+    let config = program::config(&mut words)?;
+    match words.option("connect") {
+        Some(server) => connect(&words, &server, config),
+        None => serve(words, config),
+    }
+}
+
+fn connect(words: &Words, server: &str, config: Config) -> Result<(), Refusal> {
+    let [] = words.exactly()?;
+    let make = || program::client(PROTOCOL, "localhost", VERSION_1, config);
+    visit(&program::addresses(server)?, make, &mut Sink::default()).map(|_| ())
+}
+
+fn serve(mut words: Words, config: Config) -> Result<(), Refusal> {
     let identity = words.identity()?;
     let [address] = words.exactly()?;
-    let settings = Settings::default()
-        .conn_window(20_000)
-        .stream_windows(8192)
-        .streams(16, 1 << 21);
-    let config = Config {
-        settings,
-        tuning: Tuning::default(),
-        most_window: 0,
-        idle: Duration::from_secs(30),
-    };
-    let tls = server_config(identity, &[b"gotsavena-raw"])?;
+    let tls = server_config(identity, &[PROTOCOL])?;
     let socket = listen(&address)?;
     let stop = Stop::by_signals(std::slice::from_ref(&socket)).map_err(Refusal::failure)?;
     let mut server = Server::new(socket, tls, config, |_| Sink::default());

@@ -136,9 +136,11 @@ impl Place {
             (_, State::Sized) => vec![send(move |context| {
                 context.stream(stream(context), 30, SIZE - 30, true)
             })],
-            (_, State::Reset) => vec![send(move |context| {
-                frame(RESET_STREAM, &[stream(context), CODE, SIZE])
-            })],
+            (_, State::Reset) => {
+                let reset =
+                    send(move |context| frame(RESET_STREAM, &[stream(context), CODE, SIZE]));
+                vec![reset, Step::MayEnd(Box::new(stream))]
+            }
             (_, State::Over) => vec![Step::Over(Box::new(stream), SIZE)],
             _ => Vec::new(),
         }
