@@ -7,9 +7,11 @@
 //
 //	quic-go-peer h3-server DIR ADDR CERTIFICATE.pem KEY.pem
 //	quic-go-peer h3-client ADDR DIR N PATH
+//	quic-go-peer h3-times ADDR DIR N PATH
 //	quic-go-peer h3-resets ADDR DIR N PATH..
 //
-// h3-client loads a file N times, each time on a connection of its own. h3-resets loads files on one connection, and breaks off N other requests beside each in the middle: one half of them by
+// h3-client loads a file N times, each time on a connection of its own; h3-times on one connection, one after the other, and tells how
+// long the median took. h3-resets loads files on one connection, and breaks off N other requests beside each in the middle: one half of them by
 // RESET_STREAM alone, the other with STOP_SENDING.
 package main
 
@@ -23,6 +25,7 @@ import (
 	"net/http"
 	"os"
 	"path/filepath"
+	"sort"
 	"strconv"
 	"strings"
 	"time"
@@ -62,6 +65,12 @@ func run(words []string) error {
 			return err
 		}
 		return loadAnew(words[1], words[2], count, words[4])
+	case len(words) == 5 && words[0] == "h3-times":
+		count, err := strconv.Atoi(words[3])
+		if err != nil {
+			return err
+		}
+		return loadInTurn(words[1], words[2], count, words[4])
 	case len(words) >= 5 && words[0] == "h3-resets":
 		count, err := strconv.Atoi(words[3])
 		if err != nil {
@@ -69,7 +78,7 @@ func run(words []string) error {
 		}
 		return loadAndBreakOff(words[1], words[2], count, words[4:])
 	}
-	return errors.New("server or h3-server DIR ADDR CERTIFICATE KEY, client ADDR DIR PATH.., h3-client ADDR DIR N PATH, or h3-resets ADDR DIR N PATH..")
+	return errors.New("server or h3-server DIR ADDR CERTIFICATE KEY, client ADDR DIR PATH.., h3-client or h3-times ADDR DIR N PATH, or h3-resets ADDR DIR N PATH..")
 }
 
 func serve(folder, address, certificate, key string) error {
@@ -207,6 +216,22 @@ func loadAnew(address, folder string, count int, path string) error {
 	if failed > 0 {
 		return fmt.Errorf("%d of %d loads failed", failed, count)
 	}
+	return nil
+}
+
+func loadInTurn(address, folder string, count int, path string) error {
+	client := &http3.RoundTripper{TLSClientConfig: &tls.Config{InsecureSkipVerify: true}}
+	defer client.Close()
+	var times []time.Duration
+	for place := 0; place < count; place++ {
+		begin := time.Now()
+		if err := loadHTTP(client, "https://"+address+"/"+path, filepath.Join(folder, path)); err != nil {
+			return err
+		}
+		times = append(times, time.Since(begin))
+	}
+	sort.Slice(times, func(one, other int) bool { return times[one] < times[other] })
+	fmt.Printf("%d us\n", times[count/2].Microseconds())
 	return nil
 }
 
