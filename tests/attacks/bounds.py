@@ -83,7 +83,7 @@ BOUNDS = {
         sizes=(2047, 2048, 4096, 16_383),
         heap=100_000,
         heap_why="24 bytes and a box of 64 of each stream that was reset",
-        growth=0.58,
+        growth=0.59,
         growth_why="up to 2,048 apart they stand in a ring, and from there on each in a page of 2 KiB, however far; below 2,048 a payload got a little cheaper",
         count=143_000,
     ),
@@ -99,7 +99,7 @@ BOUNDS = {
         sizes=(2047, 2048, 4096, 16_383),
         heap=25_500,
         heap_why="24 bytes and a box of 64 of each stream that was reset",
-        growth=1.55,
+        growth=1.56,
         growth_why="at 4,096 each two bytes take two pages, and below they stand in a ring, which got a little cheaper; where both fall into "
         "one page it is cheaper again",
         count=169_000,
