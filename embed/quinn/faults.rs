@@ -1,7 +1,7 @@
 //! What the adapter answers where a peer breaks a rule or memory is refused, at one end alone: no call of quinn's makes that so.
 use bytes::Bytes;
 
-use super::refusing::{ASKED, IS_CALLED, REFUSED};
+use super::refusing::refused as refused_at;
 use super::*;
 use crate::transport_parameters::TransportParameters;
 use crate::{frame, Side, TransportError, TransportErrorCode};
@@ -55,13 +55,9 @@ fn take_bytes(
     end.received(frame::Stream { id, offset, fin: false, data }, bytes.len()).map(drop)
 }
 
+// Of a call the first allocation is refused.
 fn refused<T>(call: impl FnOnce() -> T) -> T {
-    IS_CALLED.with(|is_called| is_called.set(true));
-    ASKED.with(|asked| asked.set(0));
-    REFUSED.with(|refused| refused.set(0));
-    let answer = call();
-    IS_CALLED.with(|is_called| is_called.set(false));
-    answer
+    refused_at(0, call).0
 }
 
 // Every second, so that a refusal falls among packets that are done and ones that aren't.
