@@ -128,14 +128,21 @@ impl Folder {
     }
 
     // Links are followed only while they stay in the folder: what is given out is the folder's. Where the kernel doesn't look after that, or
-    // finds a link that begins with `/`, the path without links tells.
+    // finds a link that begins with `/`, or has no descriptor left, the path without links tells.
     fn within(&self, path: &Path, flags: c_int) -> io::Result<File> {
         let path = match path.as_os_str() {
             path if path.is_empty() => Path::new("."),
             _ => path,
         };
         let opened = open_beneath(&self.root, path, flags);
-        let is_unsure = |code| [libc::EXDEV, libc::ENOSYS, libc::EPERM].contains(&code);
+        let unsure = [
+            libc::EXDEV,
+            libc::ENOSYS,
+            libc::EPERM,
+            libc::EMFILE,
+            libc::ENFILE,
+        ];
+        let is_unsure = |code| unsure.contains(&code);
         match opened {
             Err(error) if error.raw_os_error().is_some_and(is_unsure) => {
                 let path = self.path.join(path).canonicalize()?;
