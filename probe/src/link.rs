@@ -4,7 +4,7 @@ use crate::mirror::Place;
 use crate::wire::frame;
 use gotsavena::{Frame, PeerLimits, Role, Settings, Tuning, frames, put_ack};
 use gotsavena_interop::certificate::Identity;
-use gotsavena_interop::connection::{Config, Connection};
+use gotsavena_interop::connection::{Config, Connection, Path};
 use gotsavena_interop::packet::{VERSION_1, read_packet};
 use gotsavena_interop::program;
 use gotsavena_interop::ranges::Numbers;
@@ -96,7 +96,7 @@ impl Link {
         let connection = Connection::server(tls, config, id, source, Instant::now());
         let mut connection = connection.map_err(|fault| fault.to_string())?;
         connection.hear();
-        connection.receive(&mut first[..len], Instant::now());
+        connection.receive(&mut first[..len], Path::default(), Instant::now());
         Link::begin(socket, connection, Role::Server, config, way)
     }
 
@@ -242,6 +242,7 @@ fn config(is_tight: bool) -> Config {
         tuning: Tuning::default(),
         most_window: 0,
         idle: Duration::from_secs(30),
+        connections: 1,
     }
 }
 
@@ -257,7 +258,7 @@ fn shake_hands(
     let (mut out, mut buffer) = (Vec::new(), vec![0; 65_536]);
     loop {
         let now = Instant::now();
-        while connection.send(&mut out, now) {
+        while connection.send(&mut out, now).is_some() {
             _ = socket.send(&out);
         }
         if connection.is_confirmed() {
@@ -268,7 +269,7 @@ fn shake_hands(
         }
         match socket.recv(&mut buffer) {
             Ok(len) => {
-                connection.receive(&mut buffer[..len], Instant::now());
+                connection.receive(&mut buffer[..len], Path::default(), Instant::now());
             }
             Err(error) if error.kind() == std::io::ErrorKind::ConnectionRefused => {
                 return Err("no program listens on that port".to_owned());

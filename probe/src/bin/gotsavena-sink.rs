@@ -84,11 +84,13 @@ fn connect(words: &Words, server: &str, config: Config) -> Result<(), Refusal> {
 }
 
 fn serve(mut words: Words, config: Config) -> Result<(), Refusal> {
+    let config = program::serving(config, &mut words)?;
     let identity = words.identity()?;
     let [address] = words.exactly()?;
     let tls = server_config(identity, &[PROTOCOL])?;
     let socket = listen(&address)?;
-    let stop = Stop::by_signals(std::slice::from_ref(&socket)).map_err(Refusal::failure)?;
-    let mut server = Server::new(socket, tls, config, |_| Sink::default());
+    let stop = Stop::by_signals().map_err(Refusal::failure)?;
+    let server = Server::new(socket, tls, config, |_| Sink::default());
+    let mut server = server.map_err(Refusal::failure)?;
     server.run(&stop).map_err(Refusal::failure)
 }
