@@ -64,7 +64,7 @@ fn drain(end: &mut Endpoint, stream: StreamId) {
 
 fn main() -> ExitCode {
     program::run(
-        "gotsavena-sink [--cert FILE --key FILE | --connect] [--window BYTES] [--stream-window BYTES] [--streams N] ADDR",
+        "gotsavena-sink [--cert FILE --key FILE] [--connections N] [--window BYTES] [--stream-window BYTES] [--streams N] ADDR, or --connect ADDR",
         run,
     )
 }
