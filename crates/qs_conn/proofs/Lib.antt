@@ -17,3 +17,4 @@ pub mod AckRuns
 pub mod ToldLaws
 pub mod Marked
 pub mod Boths
+pub mod Places

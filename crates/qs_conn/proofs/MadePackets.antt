@@ -688,13 +688,6 @@ memory_begun c room count o is h = grind (arith, nat_tests, still_spare)
 pub still_unmarked : (c : Core) → IsCore c → ((n : ℕ) → IsQuietAt tasks.Bytes c.outbox n) → ((kind : Kind) (n : ℕ) (e : End) → IsIdle (end_of c e) (slot_at kind n)) → IsStill c
 still_unmarked c h quiet idle = record { no_item = λ e kind n. idle kind n e; no_stream = λ e n. no_goes c.outbox n (quiet n) c.limits c.recvs e }
 
--- what holds of the four kinds holds of each
-pub each_kind : (c : Core) → (let P : Kind → Type 0 = λ kind. (n : ℕ) (e : End) → IsIdle (end_of c e) (slot_at kind n) in P kinds.ResetStream → P kinds.StopSending → P kinds.MaxStreamData → P kinds.StreamDataBlocked → (kind : Kind) → P kind)
-each_kind c a b d f kinds.ResetStream = a
-each_kind c a b d f kinds.StopSending = b
-each_kind c a b d f kinds.MaxStreamData = d
-each_kind c a b d f kinds.StreamDataBlocked = f
-
 -- of the items the one that moves a half is of a stream
 abbrev IsOwn : Item → Type 0
 IsOwn i = own_items (slot_of i) ≡ 1
@@ -709,6 +702,12 @@ own_goes _ _ _ own = absurd (omega (arith, own))
 
 idle_put : (i : Item) (e : End) (slot : Slot) → IsIdle e slot → IsIdle (frame_put (Control i) e) slot
 idle_put i e slot idle j at is = grind (arith, nat_tests, current_by_base, base_item, put_old, acked_by_base)
+
+-- what was told of a slot is told still, whatever item goes in or doesn't fit
+pub idle_puts : (t : Limits) (recvs : Tables RecvLane) (o new : Outgoing) (e : End) (i : Item) (before after : List ℕ) (len end : ℕ) (full : Bool) (slot : Slot) → PutsItem i before len o after end new full → IsIdle (end_by t recvs o e) slot → IsIdle (end_by t recvs new e) slot
+idle_puts t recvs o new e i before after len end true slot (same, text, out, long) idle = subst (λ (x : Outgoing). IsIdle (end_by t recvs x e) slot) (sym out) idle
+idle_puts t recvs o new e i before after len end false slot (text, out) idle =
+    subst (λ (x : Outgoing). IsIdle (end_by t recvs x e) slot) (sym out) (subst (λ (x : End). IsIdle x slot) (sym (end_put t recvs o e i)) (idle_put i (end_by t recvs o e) slot idle))
 
 -- an item of the connection goes in, and of the streams nothing is due still
 still_put : (c : Core) (i : Item) (o : Outgoing) → IsOwn i → o ≡ item_put_out i c.outbox → IsStill c → IsStill (record c { outbox = o })

@@ -57,9 +57,9 @@ use Rattle.qs_machine.specs.Due.{Among, IsCurrent, IsCovered, IsDueItem, StreamG
 use Rattle.qs_machine.proofs.Carried.{get_new, among_more, among_last}
 use Rattle.std.proofs.Math.Bool.{or-false}
 
--- an item's place is that of its slot
-pub place_of_item : (i : Item) → slot_place (slot_of i) ≡ item_place i
-place_of_item i = grind (arith, nat_tests)
+-- the slots of items stand in the order of items
+lower_slots : (i j : Item) → IsLower (item_place j) (item_place i) → IsLower (slot_place (slot_of j)) (slot_place (slot_of i))
+lower_slots i j lower = grind (arith, nat_tests)
 
 -- each item has a slot that is passed
 pub passed_all : (i : Item) → IsPassed all_items (slot_of i)
@@ -607,7 +607,7 @@ module _ (wish : Wish) (room : ℕ) (old : End) (text : List ℕ) (e : End) (P :
   module _ (slot : Slot) (i : Item) (c : IsCurrentIn e slot (Some i)) where
     -- what comes before the item is of slots that come before its own
     comes : ((s : Slot) → IsLower (slot_place s) (slot_place slot) → P s) → (j : Item) → IsLower (item_place j) (item_place i) → P (slot_of j)
-    comes passed j lower = passed (slot_of j) (rw (place_of_item j, ← c.1, place_of_item i) lower)
+    comes passed j lower = passed (slot_of j) (subst (λ s. IsLower (slot_place (slot_of j)) (slot_place s)) c.1 (lower_slots i j lower))
 
     -- a slot's item is put
     pub begun_item : (Q : Slot → Type 0) → ((s : Slot) → IsLower (slot_place s) (slot_place slot) → P s) → ((s : Slot) → Q s → P s ⊎ (s ≡ slot)) → (IsCovered e i → ⊥) → Fits (frame_of_item i)

@@ -20,6 +20,8 @@ use Rattle.qs_send.specs.declared.piece.Item.TheVariants.{MaxData, MaxStreamData
 use Rattle.qs_conn.specs.declared.filling.Wish.{Wish}
 use Rattle.qs_conn.specs.declared.due.Slot.{Slot}
 use Rattle.qs_conn.specs.declared.due.Kind.{Kind}
+use Rattle.qs_conn.specs.declared.due.Sort.{Sort}
+use Rattle.qs_conn.specs.declared.due.Sort.TheVariants as sorts
 use Rattle.qs_conn.specs.declared.due.Kind.TheVariants as kinds
 use Rattle.qs_conn.specs.declared.limits.Limits.{Limits}
 use Rattle.qs_conn.specs.declared.due.Slot.TheVariants as slots
@@ -135,29 +137,27 @@ slot_at kinds.StopSending n = slots.StopSending n
 slot_at kinds.MaxStreamData n = slots.MaxStreamData n
 slot_at kinds.StreamDataBlocked n = slots.StreamDataBlocked n
 
--- a slot's kind, and its stream or direction: the place of its items
+-- a slot's place in a packet's order, of which a bit of a word tells, and its stream (ours, as the order of items is)
 abbrev pub slot_place : Slot → ℕ × ℕ
 slot_place slots.MaxData = (0, 0)
-slot_place (slots.MaxStreams d) = (1, dir_number d)
-slot_place (slots.ResetStream n) = (2, n)
-slot_place (slots.StopSending n) = (3, n)
-slot_place (slots.MaxStreamData n) = (4, n)
-slot_place slots.DataBlocked = (5, 0)
-slot_place (slots.StreamDataBlocked n) = (6, n)
-slot_place (slots.StreamsBlocked d) = (7, dir_number d)
+slot_place (slots.MaxStreams d) = (1 + dir_number d, 0)
+slot_place (slots.ResetStream n) = (3, n)
+slot_place (slots.StopSending n) = (4, n)
+slot_place (slots.MaxStreamData n) = (5, n)
+slot_place slots.DataBlocked = (6, 0)
+slot_place (slots.StreamDataBlocked n) = (7, n)
+slot_place (slots.StreamsBlocked d) = (8 + dir_number d, 0)
 
 -- the next place behind a slot's
 abbrev pub slot_past : Slot → ℕ × ℕ
 slot_past slots.MaxData = (1, 0)
-slot_past (slots.MaxStreams Bidi) = (1, 1)
-slot_past (slots.MaxStreams Uni) = (2, 0)
-slot_past (slots.ResetStream n) = (2, n + 1)
-slot_past (slots.StopSending n) = (3, n + 1)
-slot_past (slots.MaxStreamData n) = (4, n + 1)
-slot_past slots.DataBlocked = (6, 0)
-slot_past (slots.StreamDataBlocked n) = (6, n + 1)
-slot_past (slots.StreamsBlocked Bidi) = (7, 1)
-slot_past (slots.StreamsBlocked Uni) = (8, 0)
+slot_past (slots.MaxStreams d) = (2 + dir_number d, 0)
+slot_past (slots.ResetStream n) = (3, n + 1)
+slot_past (slots.StopSending n) = (4, n + 1)
+slot_past (slots.MaxStreamData n) = (5, n + 1)
+slot_past slots.DataBlocked = (7, 0)
+slot_past (slots.StreamDataBlocked n) = (7, n + 1)
+slot_past (slots.StreamsBlocked d) = (9 + dir_number d, 0)
 
 -- the first place of a kind, and the next one behind all of it
 abbrev pub kind_first : Kind → ℕ × ℕ
@@ -171,7 +171,12 @@ abbrev pub no_slot : ℕ × ℕ
 no_slot = (0, 0)
 
 abbrev pub all_items : ℕ × ℕ
-all_items = (8, 0)
+all_items = (10, 0)
+
+-- the place of a sort of items
+abbrev pub sort_place : Sort → ℕ
+sort_place (sorts.Own slot) = (slot_place slot).0
+sort_place (sorts.Streams kind) = (kind_first kind).0
 
 -- a slot comes before a place
 abbrev pub IsPassed : ℕ × ℕ → Slot → Type 0

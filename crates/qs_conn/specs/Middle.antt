@@ -1,6 +1,6 @@
 -- Of private contracts.
 -- What holds of the tables of an end, and of an end between calls.
-use Rattle.std.specs.Prelude.{◌≡◌, ℕ, ◌+◌, ◌-◌, ◌*◌, ◌<◌, ◌≤◌, ◌⊎◌, Bool, true, List, length, Option}
+use Rattle.std.specs.Prelude.{◌≡◌, ℕ, ◌+◌, ◌-◌, ◌*◌, ◌<◌, ◌≤◌, ◌⊎◌, min, Bool, true, List, length, Option}
 use Rattle.std.specs.FinSet as set
 use Rattle.qs_ranges.specs.Numbers.{NumberSet, run_starts}
 use Rattle.qs_calls.specs.declared.settings.PeerLimits.{PeerLimits}
@@ -16,8 +16,10 @@ use Rattle.qs_conn.specs.OwnTold.{AreOwn}
 use Rattle.qs_conn.specs.Ended.{CountsFit}
 use Rattle.qs_conn.specs.declared.due.Kind.{Kind}
 use Rattle.qs_conn.specs.declared.due.Slot.{Slot}
+use Rattle.qs_conn.specs.declared.due.Sort.{Sort}
+use Rattle.qs_conn.specs.declared.due.Sort.TheVariants as sorts
 use Rattle.qs_conn.specs.declared.due.Slot.TheVariants as slots
-use Rattle.qs_conn.specs.Filling.{LimitsFit, present_of, end_by, slot_at, HasSpare, LeavesRest}
+use Rattle.qs_conn.specs.Filling.{LimitsFit, present_of, end_by, slot_at, slot_place, kind_first, HasSpare, LeavesRest}
 use Rattle.qs_conn.specs.Layers.{ClosingFits}
 use Rattle.qs_conn.specs.Marks.{IsIdle as IsIdleAt}
 use Rattle.qs_conn.specs.Settled.{AreNextWhere}
@@ -83,6 +85,23 @@ own_items (slots.StopSending n) = 0
 own_items slots.DataBlocked = 1
 own_items (slots.StreamDataBlocked n) = 0
 own_items (slots.StreamsBlocked d) = 1
+
+-- the same of a sort, and of all sorts before a place
+abbrev pub own_of : Sort → ℕ
+own_of (sorts.Own slot) = own_items slot
+own_of (sorts.Streams kind) = 0
+
+abbrev pub own_below : ℕ → ℕ
+own_below place = min place 3 + min (place - 6) 1 + min (place - 8) 2
+
+-- the sort stands at a place: an item of the connection itself, or those of streams of a kind
+abbrev pub IsSortAt : ℕ → Sort → Type 0
+IsSortAt place (sorts.Own slot) = ((slot_place slot).0 ≡ place) × (own_items slot ≡ 1)
+IsSortAt place (sorts.Streams kind) = (kind_first kind).0 ≡ place
+
+-- what was told of a slot is told still
+abbrev pub StayIdle : (old new : Core) → Type 0
+StayIdle old new = (s : Slot) (e : End) → IsIdleAt (end_of old e) s → IsIdleAt (end_of new e) s
 
 -- so many bytes of a packet stand at the slice's front
 pub record IsFilling (c : Core) (out : List ℕ) (len : ℕ) : Type 0 where

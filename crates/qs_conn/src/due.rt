@@ -1,10 +1,11 @@
 //! Which control frames of streams may be due: a mark for each stream and kind. With one no packet in flight has the present value; without
 //! one nothing of the kind is due. It is set as the value rises or its packet is lost, and goes as the frame goes out or nothing is found to
 //! send: so filling a packet searches marks alone. Items of the connection itself have none: they are few enough for a value each.
-ghost use Rattle.std.specs.Prelude.{◌≡◌};
+ghost use Rattle.std.specs.Prelude.{◌≡◌, ◌<◌};
 ghost use Rattle.qs_streams.specs.Tasks.{row};
 ghost use Rattle.qs_conn.specs.Due.{IsItemMarked, row_of};
 ghost use Rattle.qs_conn.specs.Filling.{slot_at};
+ghost use Rattle.qs_conn.specs.Middle.{IsSortAt};
 
 use qs_send::Item;
 use qs_streams::{Boards, Task};
@@ -30,6 +31,35 @@ pub(crate) enum Kind {
     StopSending,
     MaxStreamData,
     StreamDataBlocked,
+}
+
+/// What stands at a place of a packet's order: an item of the connection itself, or those of streams of a kind.
+#[derive(Clone, Copy, Drop)]
+pub(crate) enum Sort {
+    Own(Slot),
+    Streams(Kind),
+}
+
+/// The places of the kinds of streams: they are the rows of the tasks that put frames into a packet.
+pub(crate) const STREAM_PLACES: u64 = 0b1011_1000;
+
+#[inline(always)]
+pub(crate) fn sort_at(place: usize) -> Sort
+    requires { place < 10 }
+    ensures { IsSortAt place result }
+{
+    match place {
+        0 => Sort::Own(Slot::MaxData),
+        1 => Sort::Own(Slot::MaxStreams(Dir::Bidi)),
+        2 => Sort::Own(Slot::MaxStreams(Dir::Uni)),
+        3 => Sort::Streams(Kind::ResetStream),
+        4 => Sort::Streams(Kind::StopSending),
+        5 => Sort::Streams(Kind::MaxStreamData),
+        6 => Sort::Own(Slot::DataBlocked),
+        7 => Sort::Streams(Kind::StreamDataBlocked),
+        8 => Sort::Own(Slot::StreamsBlocked(Dir::Bidi)),
+        _ => Sort::Own(Slot::StreamsBlocked(Dir::Uni)),
+    }
 }
 
 impl Kind {

@@ -10,20 +10,20 @@ ghost use Rattle.qs_conn.specs.Due.{IsMarkedAt, IsNotedBlock, marks_of};
 ghost use Rattle.qs_machine.specs.Ends.{End};
 ghost use Rattle.qs_machine.specs.Filling.{IsAsked};
 ghost use Rattle.qs_conn.specs.declared.filling.Wish.{Wish};
-ghost use Rattle.qs_conn.specs.Middle.{IsCore, IsFilling, FillsOn, HasMemory, HoldsAtMost, IsStill, own_items, end_of};
-ghost use Rattle.qs_conn.specs.Filling.{slot_at, slot_place, slot_past, kind_first, kind_past, no_slot, all_items, Stage, Flow, PackedBy, IsAckLeft, InPacket, turn_at, start_of, way_end, IsOnWay};
+ghost use Rattle.qs_conn.specs.Middle.{IsCore, IsFilling, FillsOn, HasMemory, HoldsAtMost, IsSortAt, IsStill, StayIdle, own_items, own_of, end_of};
+ghost use Rattle.qs_conn.specs.Filling.{slot_at, slot_place, slot_past, kind_first, kind_past, no_slot, all_items, sort_place, Stage, Flow, PackedBy, IsAckLeft, InPacket, turn_at, start_of, way_end, IsOnWay};
 ghost use Rattle.qs_conn.specs.Marks.{IsBefore, IsIdle};
 ghost use Rattle.qs_conn.specs.Tasks.{IsOpen, going_task};
 
 use super::Core;
-use crate::due::{Kind, Slot};
+use crate::due::{Kind, STREAM_PLACES, Slot, Sort, sort_at};
 use crate::filling::{
     Course, LEAST_STREAM_FRAME, Packet, Wish, cut_to, full_at, put_ack_if, put_chunk, put_item,
 };
 use crate::outbox::Outbox;
 use crate::own_told::OWN_ITEMS;
 use crate::send_marks::Task as SendTask;
-use qs_ranges::RangeSet;
+use qs_ranges::{RangeSet, lowest_bit};
 use qs_streams::{Boards, Task};
 use qs_wire::{Dir, StreamId};
 
@@ -68,16 +68,7 @@ impl Core {
         if self.outbox.may_have(SendTask::Bytes) {
             return false;
         }
-        if self.may_tell(Kind::ResetStream) {
-            return false;
-        }
-        if self.may_tell(Kind::StopSending) {
-            return false;
-        }
-        if self.may_tell(Kind::MaxStreamData) {
-            return false;
-        }
-        !self.may_tell(Kind::StreamDataBlocked)
+        self.due.some() & STREAM_PLACES == 0
     }
 
     #[tactic(auto, using(crate::proofs::Cores::fills_same))]
@@ -94,36 +85,37 @@ impl Core {
         if !wish.want.items {
             return packet;
         }
-        let packet = self.put_slot(Slot::MaxData, out, packet);
-        let packet = self.put_slot(Slot::MaxStreams(Dir::Bidi), out, packet);
-        let packet = self.put_slot(Slot::MaxStreams(Dir::Uni), out, packet);
-        let packet = self.put_kind(Kind::ResetStream, out, packet);
-        let packet = self.put_kind(Kind::StopSending, out, packet);
-        let packet = self.put_kind(Kind::MaxStreamData, out, packet);
-        let packet = self.put_slot(Slot::DataBlocked, out, packet);
-        let packet = self.put_kind(Kind::StreamDataBlocked, out, packet);
-        let packet = self.put_slot(Slot::StreamsBlocked(Dir::Bidi), out, packet);
-        self.put_slot(Slot::StreamsBlocked(Dir::Uni), out, packet)
-    }
-
-    // Mostly a look at how many marks there are shows that none is due.
-    #[tactic(auto, using(crate::proofs::Cores::fills_same))]
-    #[inline(always)]
-    fn put_kind(&mut self, kind: Kind, out: &mut [u8], packet: Packet) -> Packet
-        requires filling { IsFilling self.old out.old packet.len }
-        requires memory { HasMemory self.old (length out.old) packet.len 0 }
-        ensures stage { (wish : Wish) (room : ℕ) (old e : End) → room ≡ length out.old
-            → Stage wish room old (take packet.len out.old) (end_of self.old e) packet.is_full (kind_first kind)
-            → Stage wish room old (take result.len out.new) (end_of self.new e) result.is_full (kind_past kind) }
-        ensures filled { FillsOn self.old out.old packet.len self.new out.new result.len 0 }
-    {
-        if self.may_tell(kind) {
-            return self.put_marked(kind, out, packet);
+        let places = self.places();
+        let mut packet = packet;
+        let mut from = 0;
+        while let Some(place) = lowest_bit(places, from) {
+            packet = self.put_sort(sort_at(place), out, packet);
+            if packet.is_full {
+                return packet;
+            }
+            from = place + 1;
         }
         packet
     }
 
-    // Apart, so that a caller pays for the look above alone if no stream has a mark. Lower stream numbers first.
+    #[inline(always)]
+    fn put_sort(&mut self, sort: Sort, out: &mut [u8], packet: Packet) -> Packet
+        requires at { IsSortAt (sort_place sort) sort }
+        requires filling { IsFilling self.old out.old packet.len }
+        requires memory { HasMemory self.old (length out.old) packet.len (own_of sort) }
+        ensures stage { (wish : Wish) (room : ℕ) (old e : End) → room ≡ length out.old
+            → Stage wish room old (take packet.len out.old) (end_of self.old e) packet.is_full (sort_place sort, 0)
+            → Stage wish room old (take result.len out.new) (end_of self.new e) result.is_full (sort_place sort + 1, 0) }
+        ensures filled { FillsOn self.old out.old packet.len self.new out.new result.len (own_of sort) }
+        ensures still { StayIdle self.old self.new }
+    {
+        match sort {
+            Sort::Own(slot) => self.put_slot(slot, out, packet),
+            Sort::Streams(kind) => self.put_marked(kind, out, packet),
+        }
+    }
+
+    // Lower stream numbers first.
     #[tactic(auto, using(crate::proofs::Cores::fills_same))]
     #[inline(never)]
     fn put_marked(&mut self, kind: Kind, out: &mut [u8], packet: Packet) -> Packet
@@ -133,6 +125,7 @@ impl Core {
             → Stage wish room old (take packet.len out.old) (end_of self.old e) packet.is_full (kind_first kind)
             → Stage wish room old (take result.len out.new) (end_of self.new e) result.is_full (kind_past kind) }
         ensures filled { FillsOn self.old out.old packet.len self.new out.new result.len 0 }
+        ensures still { StayIdle self.old self.new }
     {
         if packet.is_full {
             return packet;
@@ -148,14 +141,6 @@ impl Core {
             from = stream.value() + 1;
         }
         packet
-    }
-
-    #[inline(always)]
-    pub(super) fn may_tell(&self, kind: Kind) -> bool
-        requires { IsCore self.now }
-        ensures { result ≡ false → (n : ℕ) (e : End) → IsIdle (end_of self.now e) (slot_at kind n) }
-    {
-        self.due.may_have(kind.task())
     }
 
     pub(super) fn next_marked(&self, kind: Kind, from: u64) -> Option<StreamId>
@@ -178,6 +163,7 @@ impl Core {
             → Stage wish room old (take result.len out.new) (end_of self.new e) result.is_full (slot_past slot) }
         ensures filled { FillsOn self.old out.old packet.len self.new out.new result.len (own_items slot) }
         ensures idle { result.is_full ≡ false → (e : End) → IsIdle (end_of self.new e) slot }
+        ensures still { StayIdle self.old self.new }
     {
         let Some(item) = self.due_in(slot) else {
             return packet;

@@ -29,6 +29,33 @@ pub(crate) enum Kind {
     StreamDataBlocked,
 }
 
+/// What stands at a place of a packet's order: an item of the connection itself, or those of streams of a kind.
+#[derive(Clone, Copy)]
+pub(crate) enum Sort {
+    Own(Slot),
+    Streams(Kind),
+}
+
+/// The places of the kinds of streams: they are the rows of the tasks that put frames into a packet.
+pub(crate) const STREAM_PLACES: u64 = 0b1011_1000;
+
+#[inline(always)]
+pub(crate) fn sort_at(place: usize) -> Sort {
+    debug_assert!(place < 10);
+    match place {
+        0 => Sort::Own(Slot::MaxData),
+        1 => Sort::Own(Slot::MaxStreams(Dir::Bidi)),
+        2 => Sort::Own(Slot::MaxStreams(Dir::Uni)),
+        3 => Sort::Streams(Kind::ResetStream),
+        4 => Sort::Streams(Kind::StopSending),
+        5 => Sort::Streams(Kind::MaxStreamData),
+        6 => Sort::Own(Slot::DataBlocked),
+        7 => Sort::Streams(Kind::StreamDataBlocked),
+        8 => Sort::Own(Slot::StreamsBlocked(Dir::Bidi)),
+        _ => Sort::Own(Slot::StreamsBlocked(Dir::Uni)),
+    }
+}
+
 impl Kind {
     #[inline]
     pub(crate) fn at(self, stream: StreamId) -> Slot {

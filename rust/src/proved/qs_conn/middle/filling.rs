@@ -2,14 +2,14 @@
 //! A packet is filled with what is due.
 
 use super::Core;
-use crate::proved::qs_conn::due::{Kind, Slot};
+use crate::proved::qs_conn::due::{Kind, STREAM_PLACES, Slot, Sort, sort_at};
 use crate::proved::qs_conn::filling::{
     Course, LEAST_STREAM_FRAME, Packet, Wish, cut_to, full_at, put_ack_if, put_chunk, put_item,
 };
 use crate::proved::qs_conn::outbox::Outbox;
 use crate::proved::qs_conn::own_told::OWN_ITEMS;
 use crate::proved::qs_conn::send_marks::Task as SendTask;
-use crate::proved::qs_ranges::RangeSet;
+use crate::proved::qs_ranges::{RangeSet, lowest_bit};
 use crate::proved::qs_streams::{Boards, Task};
 use crate::proved::qs_wire::{Dir, StreamId};
 
@@ -39,16 +39,7 @@ impl Core {
         if self.outbox.may_have(SendTask::Bytes) {
             return false;
         }
-        if self.may_tell(Kind::ResetStream) {
-            return false;
-        }
-        if self.may_tell(Kind::StopSending) {
-            return false;
-        }
-        if self.may_tell(Kind::MaxStreamData) {
-            return false;
-        }
-        !self.may_tell(Kind::StreamDataBlocked)
+        self.due.some() & STREAM_PLACES == 0
     }
 
     #[inline(always)]
@@ -56,28 +47,28 @@ impl Core {
         if !wish.want.items {
             return packet;
         }
-        let packet = self.put_slot(Slot::MaxData, out, packet);
-        let packet = self.put_slot(Slot::MaxStreams(Dir::Bidi), out, packet);
-        let packet = self.put_slot(Slot::MaxStreams(Dir::Uni), out, packet);
-        let packet = self.put_kind(Kind::ResetStream, out, packet);
-        let packet = self.put_kind(Kind::StopSending, out, packet);
-        let packet = self.put_kind(Kind::MaxStreamData, out, packet);
-        let packet = self.put_slot(Slot::DataBlocked, out, packet);
-        let packet = self.put_kind(Kind::StreamDataBlocked, out, packet);
-        let packet = self.put_slot(Slot::StreamsBlocked(Dir::Bidi), out, packet);
-        self.put_slot(Slot::StreamsBlocked(Dir::Uni), out, packet)
-    }
-
-    // Mostly a look at how many marks there are shows that none is due.
-    #[inline(always)]
-    fn put_kind(&mut self, kind: Kind, out: &mut [u8], packet: Packet) -> Packet {
-        if self.may_tell(kind) {
-            return self.put_marked(kind, out, packet);
+        let places = self.places();
+        let mut packet = packet;
+        let mut from = 0;
+        while let Some(place) = lowest_bit(places, from) {
+            packet = self.put_sort(sort_at(place), out, packet);
+            if packet.is_full {
+                return packet;
+            }
+            from = place + 1;
         }
         packet
     }
 
-    // Apart, so that a caller pays for the look above alone if no stream has a mark. Lower stream numbers first.
+    #[inline(always)]
+    fn put_sort(&mut self, sort: Sort, out: &mut [u8], packet: Packet) -> Packet {
+        match sort {
+            Sort::Own(slot) => self.put_slot(slot, out, packet),
+            Sort::Streams(kind) => self.put_marked(kind, out, packet),
+        }
+    }
+
+    // Lower stream numbers first.
     #[inline(never)]
     fn put_marked(&mut self, kind: Kind, out: &mut [u8], packet: Packet) -> Packet {
         if packet.is_full {
@@ -94,11 +85,6 @@ impl Core {
             from = stream.value() + 1;
         }
         packet
-    }
-
-    #[inline(always)]
-    pub(super) fn may_tell(&self, kind: Kind) -> bool {
-        self.due.may_have(kind.task())
     }
 
     #[inline]

@@ -2,8 +2,9 @@
 //! Whether anything is due that may go. By marks and counts, since it is asked before each packet.
 
 use super::Core;
-use crate::proved::qs_conn::due::{Kind, Slot};
+use crate::proved::qs_conn::due::{Kind, STREAM_PLACES, Slot, Sort, sort_at};
 use crate::proved::qs_calls::Fill;
+use crate::proved::qs_ranges::{lowest_bit, with_bit};
 use crate::proved::qs_send::Item;
 use crate::proved::qs_wire::{Dir, StreamId};
 
@@ -52,60 +53,67 @@ impl Core {
     }
 
     fn has_item(&self) -> bool {
-        let found = self.has_slot(Slot::MaxData, false);
-        let found = self.has_slot(Slot::MaxStreams(Dir::Bidi), found);
-        let found = self.has_slot(Slot::MaxStreams(Dir::Uni), found);
-        let found = self.has_kind(Kind::ResetStream, found);
-        let found = self.has_kind(Kind::StopSending, found);
-        let found = self.has_kind(Kind::MaxStreamData, found);
-        let found = self.has_slot(Slot::DataBlocked, found);
-        let found = self.has_kind(Kind::StreamDataBlocked, found);
-        let found = self.has_slot(Slot::StreamsBlocked(Dir::Bidi), found);
-        self.has_slot(Slot::StreamsBlocked(Dir::Uni), found)
-    }
-
-    // Mostly a look at how many marks there are shows that none is due.
-    #[inline(always)]
-    fn has_kind(&self, kind: Kind, is_found: bool) -> bool {
-        if self.may_tell(kind) {
-            return self.has_marked(kind, is_found);
+        let places = self.places();
+        let mut from = 0;
+        while let Some(place) = lowest_bit(places, from) {
+            if self.has_sort(sort_at(place)) {
+                return true;
+            }
+            from = place + 1;
         }
-        is_found
+        false
     }
 
-    #[inline(never)]
-    fn has_marked(&self, kind: Kind, is_found: bool) -> bool {
-        let mut is_found = is_found;
+    /// A bit for each place in a packet's order where an item may be due: mostly there is none.
+    #[inline(always)]
+    pub(super) fn places(&self) -> u64 {
+        self.own_places() | (self.due.some() & STREAM_PLACES)
+    }
+
+    // Those of the connection's own items.
+    #[inline(always)]
+    fn own_places(&self) -> u64 {
+        let places = with_bit(0, 0, self.may_ask(Slot::MaxData));
+        let places = with_bit(places, 1, self.may_ask(Slot::MaxStreams(Dir::Bidi)));
+        let places = with_bit(places, 2, self.may_ask(Slot::MaxStreams(Dir::Uni)));
+        let places = with_bit(places, 6, self.may_ask(Slot::DataBlocked));
+        let places = with_bit(places, 8, self.may_ask(Slot::StreamsBlocked(Dir::Bidi)));
+        with_bit(places, 9, self.may_ask(Slot::StreamsBlocked(Dir::Uni)))
+    }
+
+    #[inline(always)]
+    fn may_ask(&self, slot: Slot) -> bool {
+        if let Slot::DataBlocked = slot {
+            // Without a look at streams.
+            let limit = self.limits.known_data;
+            return self.outbox.sent_sum() == limit && !self.own.has(&Item::DataBlocked { limit });
+        }
+        self.due_in(slot).is_some()
+    }
+
+    #[inline(always)]
+    fn has_sort(&self, sort: Sort) -> bool {
+        match sort {
+            Sort::Own(slot) => self.due_in(slot).is_some(),
+            Sort::Streams(kind) => self.has_marked(kind),
+        }
+    }
+
+    fn has_marked(&self, kind: Kind) -> bool {
         let mut from = 0;
         while let Some(stream) = self.next_marked(kind, from) {
-            is_found = self.has_slot(kind.at(stream), is_found);
-            if is_found {
+            if self.due_in(kind.at(stream)).is_some() {
                 return true;
             }
             from = stream.value() + 1;
         }
-        is_found
-    }
-
-    #[inline(always)]
-    fn has_slot(&self, slot: Slot, is_found: bool) -> bool {
-        if is_found {
-            return true;
-        }
-        self.due_in(slot).is_some()
+        false
     }
 
     /// What of a slot is due: its current item, unless an outstanding packet tells it or an acknowledged one did (RFC 9000, sections 4.1, 4.6
     /// and 13.3). The one place that says so.
     #[inline(always)]
     pub(super) fn due_in(&self, slot: Slot) -> Option<Item> {
-        if let Slot::DataBlocked = slot {
-            // Before streams are looked at.
-            let limit = self.limits.known_data;
-            if self.own.has(&Item::DataBlocked { limit }) {
-                return None;
-            }
-        }
         let item = self.limits.current(&self.outbox, &self.recvs, slot)?;
         if self.own.is_told(&self.outbox, &item) {
             return None;

@@ -1,4 +1,4 @@
-use Rattle.std.proofs.Common.{◌-◌, ◌≤◌, ◌^◌}
+use Rattle.std.proofs.Common.{◌-◌, ◌≤◌, ◌^◌, false}
 use Rattle.qs_machine.specs.Ends.{End}
 use Rattle.qs_conn.specs.Middle.{end_of}
 use Rattle.qs_conn.specs.Filling.{kind_first, slot_at, slot_place}
@@ -9,7 +9,7 @@ abbrev pub invariant-loop-stream : goal.invariant-loop-stream
 invariant-loop-stream l =
     record {
       small : l.from ≤ 2 ^ 62;
-      due : (e : End) → TellsDue l.fn.is_found (end_of l.fn.self e) (kind_first l.fn.kind) → TellsDue l.is_found (end_of l.fn.self e) (slot_place (slot_at l.fn.kind l.from));
+      none : (e : End) → TellsDue false (end_of l.fn.self e) (kind_first l.fn.kind) → TellsDue false (end_of l.fn.self e) (slot_place (slot_at l.fn.kind l.from));
     }
 
 abbrev pub decreases-loop-stream : goal.decreases-loop-stream

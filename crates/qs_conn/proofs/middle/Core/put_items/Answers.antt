@@ -1,75 +1,72 @@
-use Rattle.std.proofs.Common.{rules, ◌∙◌, arith, sym}
+use Rattle.std.proofs.Common.{◌+◌, ◌∙◌, rules, arith, subst, sym, take, length}
 use Rattle.std.proofs.lemmas.Bool.{true≢false}
-use Rattle.qs_conn.proofs.Cores.{fills_on, memory_step, memory_six}
+use Rattle.qs_conn.specs.Middle.{end_of}
+use Rattle.qs_conn.specs.Filling.{all_items, Stage}
+use Rattle.qs_conn.proofs.Cores.{fills_on, fills_within}
+use Rattle.qs_conn.proofs.MadePackets.{memory_less, stage_full, stage_more}
+use Rattle.qs_conn.proofs.Places.{found_small, own_all, own_most, own_next, own_room, sort_is, sort_there, walk_end, walk_to}
 use Rattle.qs_conn.proofs.middle.Core.put_items.Goals as goal
-
-pub returns-clause-stage : goal.returns-clause-stage
-returns-clause-stage c = λ room old e asked at start.
-    let wish = c.args.wish.now in
-    let s1 = c.put_slot-packet.ensures.stage wish room old e at start in
-    let at1 = at ∙ sym c.put_slot-packet.ensures.filled.room in
-    let s2 = c.put_slot-packet-2.ensures.stage wish room old e at1 s1 in
-    let at2 = at1 ∙ sym c.put_slot-packet-2.ensures.filled.room in
-    let s3 = c.put_slot-packet-3.ensures.stage wish room old e at2 s2 in
-    let at3 = at2 ∙ sym c.put_slot-packet-3.ensures.filled.room in
-    let s4 = c.put_kind-packet.ensures.stage wish room old e at3 s3 in
-    let at4 = at3 ∙ sym c.put_kind-packet.ensures.filled.room in
-    let s5 = c.put_kind-packet-2.ensures.stage wish room old e at4 s4 in
-    let at5 = at4 ∙ sym c.put_kind-packet-2.ensures.filled.room in
-    let s6 = c.put_kind-packet-3.ensures.stage wish room old e at5 s5 in
-    let at6 = at5 ∙ sym c.put_kind-packet-3.ensures.filled.room in
-    let s7 = c.put_slot-packet-4.ensures.stage wish room old e at6 s6 in
-    let at7 = at6 ∙ sym c.put_slot-packet-4.ensures.filled.room in
-    let s8 = c.put_kind-packet-4.ensures.stage wish room old e at7 s7 in
-    let at8 = at7 ∙ sym c.put_kind-packet-4.ensures.filled.room in
-    let s9 = c.put_slot-packet-5.ensures.stage wish room old e at8 s8 in
-    let at9 = at8 ∙ sym c.put_slot-packet-5.ensures.filled.room in
-    c.put_slot.ensures.stage wish room old e at9 s9
 
 pub returns-then-not-wish-clause-stage : goal.returns-then-not-wish-clause-stage
 returns-then-not-wish-clause-stage c = λ room old e asked at start. search (rules, true≢false)
 
-pub returns-clause-passed : goal.returns-clause-passed
-returns-clause-passed c = λ none. absurd (true≢false (sym c.if-not-wish.false ∙ none))
+pub sort_at-requires : goal.sort_at-requires
+sort_at-requires c = (found_small c.places-places.result c.loop-place.from c.in-Some.place c.lowest_bit.result c.lowest_bit.ensures c.in-Some.is c.places-places.ensures.few).1
+
+pub put_sort-packet-requires-clause-at : goal.put_sort-packet-requires-clause-at
+put_sort-packet-requires-clause-at c = sort_there c.in-Some.place c.sort_at.result c.sort_at.ensures
+
+pub put_sort-packet-requires-clause-memory : goal.put_sort-packet-requires-clause-memory
+put_sort-packet-requires-clause-memory c =
+    let found = found_small c.places-places.result c.loop-place.from c.in-Some.place c.lowest_bit.result c.lowest_bit.ensures c.in-Some.is c.places-places.ensures.few in
+    memory_less c.loop-place.self _ _ _ _ (own_room c.loop-place.from c.in-Some.place c.sort_at.result c.sort_at.ensures found.0) (c.loop-place.invariant.filled.memory 6 c.requires.memory)
+
+pub returns-then-packet-clause-stage : goal.returns-then-packet-clause-stage
+returns-then-packet-clause-stage c = λ room old e asked at start.
+    let wish = c.args.wish.now in
+    let from = c.loop-place.from in
+    let place = c.in-Some.place in
+    let inside = end_of c.loop-place.self e in
+    let text = take c.loop-place.packet.len c.loop-place.out in
+    let here = stage_more wish room old text inside c.loop-place.packet.is_full (from, 0) (place, 0) (walk_to inside c.places-places.result from (λ s. c.loop-place.invariant.idle s e) place c.lowest_bit.result c.lowest_bit.ensures c.in-Some.is) (c.loop-place.invariant.stage room old e at start) in
+    let there = subst (λ k. Stage wish room old text inside c.loop-place.packet.is_full (k, 0)) (sym (sort_is place c.sort_at.result c.sort_at.ensures)) here in
+    stage_full wish room old (take c.put_sort-packet.result.len c.put_sort-packet.new.out) (end_of c.put_sort-packet.new.self e) c.put_sort-packet.result.is_full _ all_items c.if-packet.true
+    (c.put_sort-packet.ensures.stage wish room old e (at ∙ sym c.loop-place.invariant.filled.room) there)
+
+pub returns-then-packet-clause-filled : goal.returns-then-packet-clause-filled
+returns-then-packet-clause-filled c =
+    let found = found_small c.places-places.result c.loop-place.from c.in-Some.place c.lowest_bit.result c.lowest_bit.ensures c.in-Some.is c.places-places.ensures.few in
+    fills_within _ _ _ _ _ _ _ 6 (own_all c.loop-place.from c.in-Some.place c.sort_at.result c.sort_at.ensures found.0) (fills_on _ _ _ _ _ _ _ _ _ _ _ c.loop-place.invariant.filled c.put_sort-packet.ensures.filled)
+
+pub loop-place-smaller : goal.loop-place-smaller
+loop-place-smaller c =
+    let found = found_small c.places-places.result c.loop-place.from c.in-Some.place c.lowest_bit.result c.lowest_bit.ensures c.in-Some.is c.places-places.ensures.few in
+    omega (arith, found)
+
+pub loop-place-preserved : goal.loop-place-preserved
+loop-place-preserved c =
+    let wish = c.args.wish.now in
+    let from = c.loop-place.from in
+    let place = c.in-Some.place in
+    let found = found_small c.places-places.result from place c.lowest_bit.result c.lowest_bit.ensures c.in-Some.is c.places-places.ensures.few in
+    record {
+      small = omega (arith, found);
+      stage = λ room old e at start. (
+          let inside = end_of c.loop-place.self e in
+          let text = take c.loop-place.packet.len c.loop-place.out in
+          let here = stage_more wish room old text inside c.loop-place.packet.is_full (from, 0) (place, 0) (walk_to inside c.places-places.result from (λ s. c.loop-place.invariant.idle s e) place c.lowest_bit.result c.lowest_bit.ensures c.in-Some.is) (c.loop-place.invariant.stage room old e at start) in
+          let same = sort_is place c.sort_at.result c.sort_at.ensures in
+          let there = subst (λ k. Stage wish room old text inside c.loop-place.packet.is_full (k, 0)) (sym same) here in
+          subst (λ k. Stage wish room old (take c.put_sort-packet.result.len c.put_sort-packet.new.out) (end_of c.put_sort-packet.new.self e) c.put_sort-packet.result.is_full (k + 1, 0)) same
+          (c.put_sort-packet.ensures.stage wish room old e (at ∙ sym c.loop-place.invariant.filled.room) there));
+      idle = λ s e off. c.put_sort-packet.ensures.still s e (c.loop-place.invariant.idle s e off);
+      filled = fills_within _ _ _ _ _ _ _ _ (own_next from place c.sort_at.result c.sort_at.ensures found.0) (fills_on _ _ _ _ _ _ _ _ _ _ _ c.loop-place.invariant.filled c.put_sort-packet.ensures.filled);
+    }
+
+pub returns-clause-stage : goal.returns-clause-stage
+returns-clause-stage c = λ room old e asked at start.
+    let inside = end_of c.loop-place.self e in
+    stage_more c.args.wish.now room old (take c.loop-place.packet.len c.loop-place.out) inside c.loop-place.packet.is_full (c.loop-place.from, 0) all_items (walk_end inside c.places-places.result c.loop-place.from (λ s. c.loop-place.invariant.idle s e) c.lowest_bit.result c.lowest_bit.ensures c.in_default.is) (c.loop-place.invariant.stage room old e at start)
 
 pub returns-clause-filled : goal.returns-clause-filled
-returns-clause-filled c =
-    let f1 = fills_on _ _ _ _ _ _ _ _ _ _ _ c.put_slot-packet.ensures.filled c.put_slot-packet-2.ensures.filled in
-    let f2 = fills_on _ _ _ _ _ _ _ _ _ _ _ f1 c.put_slot-packet-3.ensures.filled in
-    let f3 = fills_on _ _ _ _ _ _ _ _ _ _ _ f2 c.put_kind-packet.ensures.filled in
-    let f4 = fills_on _ _ _ _ _ _ _ _ _ _ _ f3 c.put_kind-packet-2.ensures.filled in
-    let f5 = fills_on _ _ _ _ _ _ _ _ _ _ _ f4 c.put_kind-packet-3.ensures.filled in
-    let f6 = fills_on _ _ _ _ _ _ _ _ _ _ _ f5 c.put_slot-packet-4.ensures.filled in
-    let f7 = fills_on _ _ _ _ _ _ _ _ _ _ _ f6 c.put_kind-packet-4.ensures.filled in
-    let f8 = fills_on _ _ _ _ _ _ _ _ _ _ _ f7 c.put_slot-packet-5.ensures.filled in
-    fills_on _ _ _ _ _ _ _ _ _ _ _ f8 c.put_slot.ensures.filled
-
-pub put_slot-packet-requires-clause-memory : goal.put_slot-packet-requires-clause-memory
-put_slot-packet-requires-clause-memory c = search (rules, memory_step, memory_six)
-
-pub put_slot-packet-requires-2-clause-memory : goal.put_slot-packet-requires-2-clause-memory
-put_slot-packet-requires-2-clause-memory c = search (rules, memory_step, memory_six)
-
-pub put_slot-packet-requires-3-clause-memory : goal.put_slot-packet-requires-3-clause-memory
-put_slot-packet-requires-3-clause-memory c = search (rules, memory_step, memory_six)
-
-pub put_kind-packet-requires-clause-memory : goal.put_kind-packet-requires-clause-memory
-put_kind-packet-requires-clause-memory c = search (rules, memory_step, memory_six)
-
-pub put_kind-packet-requires-2-clause-memory : goal.put_kind-packet-requires-2-clause-memory
-put_kind-packet-requires-2-clause-memory c = search (rules, memory_step, memory_six, c.requires.memory) depth 14
-
-pub put_kind-packet-requires-3-clause-memory : goal.put_kind-packet-requires-3-clause-memory
-put_kind-packet-requires-3-clause-memory c = search (memory_step, memory_six _ _ _ 3 (omega arith) c.requires.memory) depth 14 fits 20000
-
-pub put_slot-packet-requires-4-clause-memory : goal.put_slot-packet-requires-4-clause-memory
-put_slot-packet-requires-4-clause-memory c = search (memory_step, memory_six _ _ _ 4 (omega arith) c.requires.memory) depth 14 fits 20000
-
-pub put_kind-packet-requires-4-clause-memory : goal.put_kind-packet-requires-4-clause-memory
-put_kind-packet-requires-4-clause-memory c = search (memory_step, memory_six _ _ _ 4 (omega arith) c.requires.memory) depth 14 fits 20000
-
-pub put_slot-packet-requires-5-clause-memory : goal.put_slot-packet-requires-5-clause-memory
-put_slot-packet-requires-5-clause-memory c = search (memory_step, memory_six _ _ _ 5 (omega arith) c.requires.memory) depth 14 fits 20000
-
-pub put_slot-requires-clause-memory : goal.put_slot-requires-clause-memory
-put_slot-requires-clause-memory c = search (memory_step, memory_six _ _ _ 6 (omega arith) c.requires.memory) depth 14 fits 20000
+returns-clause-filled c = fills_within _ _ _ _ _ _ _ 6 (own_most c.loop-place.from) c.loop-place.invariant.filled

@@ -20,6 +20,7 @@ loop-stream-preserved c =
       stage = λ wish room old e at start. (
           let here = stage_more wish room old (take c.loop-stream.packet.len c.loop-stream.out) (end_of c.loop-stream.self e) c.loop-stream.packet.is_full (slot_place (slot_at c.args.kind c.loop-stream.from)) (slot_place (slot_at c.args.kind stream)) (adds_below _ c.args.kind c.loop-stream.from stream (λ n. c.in-Some.ensures.idle n e)) (c.loop-stream.invariant.stage wish room old e at start) in
           rw (c.value-from.ensures.same, ← past_at c.args.kind stream c.at.result c.at.ensures) (c.put_slot-packet.ensures.stage wish room old e (at ∙ sym c.loop-stream.invariant.filled.room) (rw c.at.ensures here)));
+      still = λ s e idle. c.put_slot-packet.ensures.still s e (c.loop-stream.invariant.still s e idle);
       filled = (
           let none = ap own_items c.at.ensures ∙ own_kind c.args.kind stream in
           let put = fills_within _ _ _ _ _ _ _ 0 (omega (arith, none)) (fills_on _ _ _ _ _ _ _ _ _ _ _ c.loop-stream.invariant.filled c.put_slot-packet.ensures.filled) in
@@ -51,3 +52,6 @@ put_slot-packet-requires-clause-memory c =
 
 pub put_slot-packet-requires-clause-marked : goal.put_slot-packet-requires-clause-marked
 put_slot-packet-requires-clause-marked c = rw c.at.ensures (marked_at c.loop-stream.self.due c.args.kind c.in-Some.stream c.in-Some.ensures.found.1)
+
+pub returns-then-packet-2-clause-still : goal.returns-then-packet-2-clause-still
+returns-then-packet-2-clause-still c = λ s e idle. c.put_slot-packet.ensures.still s e (c.loop-stream.invariant.still s e idle)

@@ -1,7 +1,7 @@
 use Rattle.std.proofs.Common.{◌≡◌, ℕ, ◌-◌, ◌≤◌, ◌^◌, length, take}
 use Rattle.qs_machine.specs.Ends.{End}
 use Rattle.qs_conn.specs.declared.filling.Wish.{Wish}
-use Rattle.qs_conn.specs.Middle.{FillsOn, end_of}
+use Rattle.qs_conn.specs.Middle.{FillsOn, StayIdle, end_of}
 use Rattle.qs_conn.specs.Filling.{kind_first, slot_at, slot_place, Stage}
 use Rattle.qs_conn.proofs.middle.Core.put_marked.Given as goal
 
@@ -12,6 +12,7 @@ invariant-loop-stream l =
       stage : (wish : Wish) (room : ℕ) (old e : End) → room ≡ length l.fn.out
           → Stage wish room old (take l.fn.packet.len l.fn.out) (end_of l.fn.self e) l.fn.packet.is_full (kind_first l.fn.kind)
           → Stage wish room old (take l.packet.len l.out) (end_of l.self e) l.packet.is_full (slot_place (slot_at l.fn.kind l.from));
+      still : StayIdle l.fn.self l.self;
       filled : FillsOn l.fn.self l.fn.out l.fn.packet.len l.self l.out l.packet.len 0;
     }
 

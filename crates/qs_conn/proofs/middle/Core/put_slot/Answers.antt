@@ -3,7 +3,7 @@ use Rattle.qs_conn.specs.Middle.{end_of}
 use Rattle.qs_conn.proofs.Cores.{core_item, fills_outbox}
 use Rattle.qs_conn.specs.Filling.{slot_place, slot_past}
 use Rattle.qs_conn.proofs.Stages.{adds_slot}
-use Rattle.qs_conn.proofs.MadePackets.{stage_more, stage_put, some_end, item_spare, item_memory, memory_marks}
+use Rattle.qs_conn.proofs.MadePackets.{stage_more, stage_put, some_end, item_spare, item_memory, memory_marks, idle_puts}
 use Rattle.qs_conn.proofs.Untolds.{may_tell, put_idle}
 use Rattle.qs_conn.proofs.middle.Core.put_slot.Goals as goal
 
@@ -50,3 +50,8 @@ pub returns-clause-idle : goal.returns-clause-idle
 returns-clause-idle c = λ full e.
     let self = c.args.self.now in
     rw c.note_put.ensures.same (put_idle self.limits self.recvs self.outbox c.put_item-packet.new.outbox e c.in-Some.item c.args.slot _ _ _ _ c.put_item-packet.result.is_full c.put_item-packet.ensures.puts (c.in-Some.ensures.due e).0 full)
+
+pub returns-clause-still : goal.returns-clause-still
+returns-clause-still c = λ s e idle.
+    let self = c.args.self.now in
+    rw c.note_put.ensures.same (idle_puts self.limits self.recvs self.outbox c.put_item-packet.new.outbox e c.in-Some.item _ _ _ _ c.put_item-packet.result.is_full s c.put_item-packet.ensures.puts idle)
