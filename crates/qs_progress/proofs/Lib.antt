@@ -45,4 +45,6 @@ pub mod Paid
 pub mod Charged
 pub mod Unwritten
 pub mod ReadInRounds
+pub mod From
+pub mod Ceased
 pub mod ExclusionsWindows
