@@ -128,7 +128,7 @@ module _ (a b : Settings) where
     b_sends = sends a b B first.turn_b.2.0 lost_b first.sent_b lost_b.ends.b.next to_lost_b.0 first.turn_b.2.1 (owes_none lost_b to_lost_b.0 B b_lost.clear)
 
     -- what A sent is acknowledged
-    a_clear : IsClear first.sent_b.ends.a
+    pub a_clear : IsClear first.sent_b.ends.a
     a_clear =
         tells a b B first.turn_b.2.0 lost_b first.sent_b lost_a.ends.a.next first.sent_a.ends.a.next to_lost_b.0 first.turn_b.2.1
         (inl (owes_as _ _ first.sent_a.ends.a lost_b.ends.a first.sent_a.ends.b lost_b.ends.b (ap (λ (e : End). e.outstanding) b_lost.there) b_lost.here.done b_lost.here.due a_sent.1))

@@ -47,4 +47,7 @@ pub mod Unwritten
 pub mod ReadInRounds
 pub mod From
 pub mod Ceased
+pub mod Eased
+pub mod Moves
+pub mod Tail
 pub mod ExclusionsWindows

@@ -76,6 +76,7 @@ module _ (a b : Settings) where
     pub seen : Moment
     pub to_seen : Later a b sent seen
     pub from_seen : Later a b seen new
+    pub after : (ns : List Moment) × Trail IsRead seen ns new
     pub quiet : (n : ℕ) (r : RecvLane) → receiving seen.ends s n ≡ Some r → TellsNoNews (read_answer r 1) r
 
   module _ (old new : Moment) (r : IsReached a b old) (round : Round old new) (unclosed : BothOpen new.ends) where
@@ -99,6 +100,7 @@ module _ (a b : Settings) where
       seen : Moment
       to_seen : Later a b round.sent_b seen
       from_seen : Later a b seen new
+      after : (ns : List Moment) × Trail IsRead seen ns new
       quiet : (n : ℕ) (l : RecvLane) → recv_lane (end_of seen.ends t) n ≡ Some l → TellsNoNews (read_answer l 1) l
 
     seen_by : (t : Side) → Seen t
@@ -110,6 +112,7 @@ module _ (a b : Settings) where
           seen = m;
           to_seen = first;
           from_seen = led_to m new first.is_reached (reads_on ns m new after);
+          after = (ns, after);
           quiet = quiet_at m first.is_reached (trail_open IsRead ns m new after unclosed) t least;
         }
 
@@ -125,6 +128,7 @@ module _ (a b : Settings) where
           seen = by.seen;
           to_seen = later_twice a b round.sent_a round.sent_b by.seen a_to_b by.to_seen;
           from_seen = by.from_seen;
+          after = by.after;
           quiet = by.quiet;
         }
 
@@ -139,13 +143,14 @@ module _ (a b : Settings) where
           seen = by.seen;
           to_seen = by.to_seen;
           from_seen = by.from_seen;
+          after = by.after;
           quiet = by.quiet;
         }
 
   -- Where nothing was left to send, all is read
 
   -- no half of an end has more to send
-  abbrev NoneLeft : Side → Moment → Type 0
+  abbrev pub NoneLeft : Side → Moment → Type 0
   NoneLeft s m = (n : ℕ) (l : SendLane) → sending m.ends s n ≡ Some l → l.was_reset ≡ None → l.sent_end < l.written → ⊥
 
   module _ (s : Side) (old sent new : Moment) (half : Half s old sent new) (none_left : NoneLeft s sent) (n : ℕ) (unbroken : broken_off s n new.log ≡ false) (going : stopped (other s) n new.log ≡ false) where
