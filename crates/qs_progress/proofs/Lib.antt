@@ -50,4 +50,5 @@ pub mod Ceased
 pub mod Eased
 pub mod Moves
 pub mod Tail
+pub mod RestInRounds
 pub mod ExclusionsWindows
