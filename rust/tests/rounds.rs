@@ -145,13 +145,28 @@ impl Course {
         while let Some(number) = self.ends[side].next_outstanding(0) {
             assert_eq!(self.ends[side].declare_lost(number), Ok(()));
         }
-        let mut out = vec![0; room];
-        while let Some(made) = self.ends[side].make_packet(&mut out).expect("open") {
-            let token = self.ends[side].token_of(made.number);
-            self.packets[side].push((token, out[..made.len].to_vec()));
-            let came = self.ends[1 - side].receive(made.number, &out[..made.len]);
+        while let Some((token, text)) = self.next(side, room) {
+            let came = self.ends[1 - side].receive(token.number, &text);
             assert_eq!(came, Ok(Received::Done));
+            self.packets[side].push((token, text));
         }
+    }
+
+    // The next packet of an end, if something may go: by its number an ACK alone, a fill or any.
+    fn next(&mut self, side: usize, room: usize) -> Option<(Token, Vec<u8>)> {
+        let end = &mut self.ends[side];
+        let mut out = vec![0; room];
+        let ack = match end.next_number() % 3 {
+            0 => end.make_ack(0, &mut out).expect("open"),
+            1 => match fill_one(end, &Want::all(), room) {
+                Some((filled, text)) => return Some((filled.token, text)),
+                None => None,
+            },
+            _ => None,
+        };
+        let made = ack.or_else(|| end.make_packet(&mut out).expect("open"))?;
+        out.truncate(made.len);
+        Some((end.token_of(made.number), out))
     }
 
     fn read_all(&mut self, side: usize) {

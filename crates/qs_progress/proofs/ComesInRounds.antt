@@ -1,7 +1,7 @@
 -- Rest comes by rounds: from the end of A's turn to the end of its next turn, where the round between doesn't begin at rest, something is
 -- done for good.
 use Rattle.std.proofs.lemmas.Bool.Decides.{nat_tests}
-use Rattle.std.proofs.Common.{◌≡◌, ℕ, ◌+◌, ◌<◌, ◌≤◌, Bool, true, false, List, [], ◌∷◌, ◌++◌, ◌⊎◌, refl, sym, ap, ◌∙◌, subst, arith, inl, inr}
+use Rattle.std.proofs.Common.{◌≡◌, ℕ, ◌+◌, ◌<◌, ◌≤◌, true, List, [], ◌∷◌, ◌++◌, ◌⊎◌, refl, sym, ap, ◌∙◌, subst, arith, inl, inr}
 use Rattle.std.specs.Prelude.{⊤}
 use Rattle.std.specs.FinSet as set
 use Rattle.qs_send.specs.Records.{Among}
@@ -21,7 +21,6 @@ use Rattle.qs_progress.specs.Laps.{Moment, IsCalm, Trail, Sometime}
 use Rattle.qs_progress.specs.Outstanding.{IsIn}
 use Rattle.qs_progress.specs.Comes.{BothRest, BothOpen, IsReached}
 use Rattle.qs_progress.specs.Rounds.{IsRead, TakesTurn, Round}
-use Rattle.qs_progress.proofs.Bound.{is_below}
 use Rattle.qs_progress.proofs.Trails.{eased, joined, last_of}
 use Rattle.qs_progress.proofs.Passing.{Owes, IsClear}
 use Rattle.qs_progress.proofs.Turns.{HasLost, below_next, loses, loses_trail, sends, tells, sends_trail, sends_all}

@@ -1,6 +1,6 @@
 -- Limits and counts of streams that don't move: nothing new came, and no half ended.
-use Rattle.std.proofs.Common.{◌≡◌, ℕ, zero, suc, ◌+◌, ◌-◌, ◌*◌, ◌<◌, ◌≤◌, Bool, true, false, ◌&&◌, ◌||◌, cond, List, [], ◌∷◌, ◌⊎◌, length, slice_get, option_map, Option, Some, None, is_some, refl, sym, ap, ◌∙◌, subst, arith, inl, inr}
-use Rattle.std.specs.Prelude.{⊤, max, min, zip, is_none, nat_le, nat_lt}
+use Rattle.std.proofs.Common.{◌≡◌, ℕ, zero, suc, ◌+◌, ◌-◌, ◌*◌, ◌<◌, ◌≤◌, Bool, true, false, cond, List, [], ◌∷◌, ◌⊎◌, length, slice_get, option_map, Option, Some, None, is_some, refl, sym, ap, ◌∙◌, subst, arith, inl, inr}
+use Rattle.std.specs.Prelude.{⊤, max, zip, is_none}
 use Rattle.std.specs.List.{filter}
 use Rattle.std.specs.Ordering.{nat_cmp}
 use Rattle.std.specs.FinSet as set
@@ -9,13 +9,13 @@ use Rattle.std.proofs.lemmas.Bool.Decides.{nat_tests}
 use Rattle.std.proofs.lemmas.Option.{none-some, same_Some}
 use Rattle.qs_wire.specs.declared.stream_id.Dir.{Dir}
 use Rattle.qs_wire.specs.declared.stream_id.Dir.TheVariants.{Bidi, Uni}
-use Rattle.qs_recv.specs.Lane.{RecvLane, raise, next_limit, taken, step, new_lane as new_recv_lane, read_answer}
+use Rattle.qs_recv.specs.Lane.{RecvLane, raise, next_limit, taken, new_lane as new_recv_lane, read_answer}
 use Rattle.qs_recv.specs.declared.credit.Share.{Share}
 use Rattle.qs_send.specs.Lane.{SendLane, is_whole as send_whole, unacked_from}
 use Rattle.qs_send.specs.declared.parts.Reset.{Reset}
 use Rattle.qs_send.specs.declared.piece.Item.{Item}
 use Rattle.qs_send.specs.declared.piece.Item.TheVariants.{MaxData, MaxStreamData, MaxStreams, StreamsBlocked}
-use Rattle.qs_machine.specs.Tables.{Tables, table, lookup, each, total, no_streams}
+use Rattle.qs_machine.specs.Tables.{Tables, table, lookup, each}
 use Rattle.qs_machine.specs.Ends.{End, role_bit, peer_type, first_window, first_window_by}
 use Rattle.qs_machine.specs.Credit.{settle, ended, both_ended, recv_ended, send_ended, all_taken, granted_streams, count_after, first_grant}
 use Rattle.qs_machine.specs.Due.{IsCurrent, IsDueItem, wanted, known_count}
@@ -185,15 +185,15 @@ module _ (e mid : End) (settled : settle e ≡ e) (stands : but_news mid ≡ but
       by Bidi =
           (λ i. max (stands i).granted_bidi (count_after (stands i).settings (stands i).tuning Bidi (stands i).present.grant_bidi (ended mid Bidi)))
           ∙ (
-            let high = count_more e.settings e.tuning Bidi e.present.grant_bidi (ended mid Bidi) (ended e Bidi) (fewer Bidi) in
-            let top : max e.granted_bidi (count_after e.settings e.tuning Bidi e.present.grant_bidi (ended e Bidi)) ≡ e.granted_bidi = ap (λ (x : End). x.granted_bidi) settled in
-            no_higher e.granted_bidi _ _ high top)
+          let high = count_more e.settings e.tuning Bidi e.present.grant_bidi (ended mid Bidi) (ended e Bidi) (fewer Bidi) in
+          let top : max e.granted_bidi (count_after e.settings e.tuning Bidi e.present.grant_bidi (ended e Bidi)) ≡ e.granted_bidi = ap (λ (x : End). x.granted_bidi) settled in
+          no_higher e.granted_bidi _ _ high top)
       by Uni =
           (λ i. max (stands i).granted_uni (count_after (stands i).settings (stands i).tuning Uni (stands i).present.grant_uni (ended mid Uni)))
           ∙ (
-            let high = count_more e.settings e.tuning Uni e.present.grant_uni (ended mid Uni) (ended e Uni) (fewer Uni) in
-            let top : max e.granted_uni (count_after e.settings e.tuning Uni e.present.grant_uni (ended e Uni)) ≡ e.granted_uni = ap (λ (x : End). x.granted_uni) settled in
-            no_higher e.granted_uni _ _ high top)
+          let high = count_more e.settings e.tuning Uni e.present.grant_uni (ended mid Uni) (ended e Uni) (fewer Uni) in
+          let top : max e.granted_uni (count_after e.settings e.tuning Uni e.present.grant_uni (ended e Uni)) ≡ e.granted_uni = ap (λ (x : End). x.granted_uni) settled in
+          no_higher e.granted_uni _ _ high top)
 
 -- No limit is due, and none is asked for
 

@@ -1,5 +1,5 @@
 -- What a table has came from what it had, or is new.
-use Rattle.std.proofs.Common.{◌≡◌, ℕ, ◌%◌, Bool, false, not, ◌&&◌, ◌||◌, List, [], ◌∷◌, ◌⊎◌, take, option_map, Option, Some, None, is_some, refl, sym, ap, ◌∙◌, subst, inl, inr, arith}
+use Rattle.std.proofs.Common.{◌≡◌, ℕ, ◌%◌, false, not, ◌&&◌, ◌||◌, List, [], ◌∷◌, ◌⊎◌, take, option_map, Option, Some, None, is_some, refl, sym, ap, ◌∙◌, subst, inl, inr, arith}
 use Rattle.std.specs.Prelude.{⊤}
 use Rattle.std.proofs.lemmas.Bool.{cases_eq, cond_both}
 use Rattle.std.proofs.lemmas.Option.{none-some, same_Some}
@@ -13,8 +13,7 @@ use Rattle.qs_send.specs.declared.piece.Item.TheVariants.{MaxStreamData, MaxStre
 use Rattle.qs_send.specs.declared.piece.Piece.{Piece}
 use Rattle.qs_send.specs.declared.piece.Piece.TheVariants.{Data, Told}
 use Rattle.qs_machine.specs.Tables.{Tables, lookup, update, updated, open_to, each}
-use Rattle.qs_machine.specs.Ends.{End, is_own, is_uni, on_send, on_recv, opens, opened_by_peer, first_send_limit, first_window}
-use Rattle.qs_machine.specs.Credit.{settle}
+use Rattle.qs_machine.specs.Ends.{End, is_own, is_uni, on_recv, opens, opened_by_peer, first_send_limit, first_window}
 use Rattle.qs_machine.specs.Seen.{Seen, Ack, Stream, Control}
 use Rattle.qs_machine.specs.FrameStep.{AckedPiece, frame_taken, frames_taken, without_piece, acks, first_acked, piece_acked, named}
 use Rattle.qs_machine.proofs.TableLaws.{lookup_same, lookup_other, lookup_open, lookup_each}

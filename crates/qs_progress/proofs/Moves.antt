@@ -1,52 +1,41 @@
 -- Two ends of which nothing new comes any more: what a packet and a read leave of them.
-use Rattle.std.proofs.Common.{◌≡◌, ℕ, zero, suc, ◌+◌, ◌<◌, ◌≤◌, Bool, true, false, ◌||◌, not, ◌&&◌, List, [], ◌∷◌, ◌⊎◌, Option, Some, None, is_some, refl, sym, ap, ◌∙◌, subst, arith, inl, inr}
-use Rattle.std.specs.Prelude.{⊤, Ok}
+use Rattle.std.proofs.Common.{◌≡◌, ℕ, ◌+◌, ◌≤◌, Bool, true, false, List, [], ◌∷◌, Some, None, is_some, refl, sym, ap, ◌∙◌, subst, arith, inl, inr}
+use Rattle.std.specs.Prelude.{⊤}
 use Rattle.std.specs.FinSet as set
 use Rattle.std.proofs.lemmas.Bool.{cond_both, or_cases, and_parts, true≢false}
-use Rattle.std.proofs.lemmas.Bool.Decides.{nat_tests}
-use Rattle.std.proofs.lemmas.Option.{none-some, same_Some}
 use Rattle.qs_wire.specs.declared.stream_id.Dir.{Dir}
 use Rattle.qs_wire.specs.declared.stream_id.Dir.TheVariants.{Bidi, Uni}
-use Rattle.qs_recv.specs.Lane.{RecvLane, read_answer, after_read, after_answer}
-use Rattle.qs_recv.specs.declared.half.Read.{Read}
 use Rattle.qs_send.specs.Lane.{SendLane}
 use Rattle.qs_send.specs.Records.{Among}
-use Rattle.qs_send.specs.declared.parts.Reset.{Reset}
 use Rattle.qs_send.specs.declared.piece.Item.{Item}
 use Rattle.qs_send.specs.declared.piece.Item.TheVariants.{MaxData, MaxStreamData, MaxStreams, ResetStream, StopSending, DataBlocked, StreamDataBlocked, StreamsBlocked}
 use Rattle.qs_send.specs.declared.piece.Piece.{Piece}
 use Rattle.qs_send.specs.declared.piece.Piece.TheVariants.{Data, Told}
 use Rattle.qs_calls.specs.declared.event.Side.{Side}
 use Rattle.qs_calls.specs.declared.settings.Settings.{Settings}
-use Rattle.qs_machine.specs.Tables.{Tables, lookup, each, no_streams}
-use Rattle.qs_machine.specs.Ends.{End, is_own, on_recv, opens, opened_by_peer}
+use Rattle.qs_machine.specs.Tables.{lookup, no_streams}
+use Rattle.qs_machine.specs.Ends.{End, is_own, opens, opened_by_peer}
 use Rattle.qs_machine.specs.Credit.{settle, ended, recv_ended, send_ended}
 use Rattle.qs_machine.specs.Due.{IsDueItem, wanted, known_count}
-use Rattle.qs_machine.specs.EndStep.{Call, Answer, EndStep}
-use Rattle.qs_machine.specs.FrameStep.{frame_taken, frames_taken, named, NoFault}
-use Rattle.qs_machine.specs.Lawful.{Fills}
+use Rattle.qs_machine.specs.FrameStep.{frame_taken, frames_taken, named}
 use Rattle.qs_machine.specs.Recording.{recorded}
-use Rattle.qs_machine.specs.Seen.{Seen, Ack, Stream, Control, Close, Plain, any_asks}
-use Rattle.qs_machine.proofs.Leaves.{but_sending, but_streams, acks_leave, fills_leave, frame_leaves}
-use Rattle.qs_machine.proofs.TablesAfter.{updated_back}
+use Rattle.qs_machine.specs.Seen.{Seen, Ack, Stream, Control, any_asks}
+use Rattle.qs_machine.proofs.Leaves.{but_sending, acks_leave, fills_leave}
 use Rattle.qs_runs.specs.Invariant.{WorldOk}
 use Rattle.qs_runs.specs.Logs.{other}
-use Rattle.qs_runs.specs.Pasts.{past}
-use Rattle.qs_runs.specs.Worlds.{World, end_of, WorldStep}
+use Rattle.qs_runs.specs.Worlds.{end_of}
 use Rattle.qs_runs.proofs.Claims.{run_settled}
 use Rattle.qs_runs.proofs.Runs.{run_keeps}
-use Rattle.qs_rest.specs.Rest.{HasMore, TellsNoNews}
 use Rattle.qs_rest.proofs.OneStream.{sender_ok, acked_sent}
 use Rattle.qs_rest.proofs.Runs.{every_run_keeps}
-use Rattle.qs_progress.specs.Laps.{Moment, Trail}
+use Rattle.qs_progress.specs.Laps.{Moment}
 use Rattle.qs_progress.specs.Outstanding.{IsIn}
 use Rattle.qs_progress.specs.Comes.{IsReached}
-use Rattle.qs_progress.specs.Rounds.{IsRead}
-use Rattle.qs_progress.proofs.Passing.{Passed, IsClear, still_clear}
-use Rattle.qs_progress.proofs.Steps.{but_ack, IsNew, fills_new}
+use Rattle.qs_progress.proofs.Passing.{Passed, IsClear}
+use Rattle.qs_progress.proofs.Steps.{IsNew, fills_new}
 use Rattle.qs_progress.proofs.From.{IsStop, SendsFrom, sends_same, sends_frames, IsSoft, RecvsFrom, recvs_same, recvs_frames}
-use Rattle.qs_progress.proofs.Ceased.{CalmStep, NoStops, IsSpent, AllDone, IsReadOut, stops_stay, spent_stays, done_stays, put_due, no_data}
-use Rattle.qs_progress.proofs.Eased.{HadEnded, ended_few, done_ended, but_news, Eased, settled_recvs, eased, NoLimits, NoBlocks, read_out_stays, limits_stay, blocks_stay}
+use Rattle.qs_progress.proofs.Ceased.{CalmStep, NoStops, IsSpent, AllDone, spent_stays, put_due, no_data}
+use Rattle.qs_progress.proofs.Eased.{HadEnded, ended_few, done_ended, but_news, Eased, settled_recvs, eased, NoLimits, NoBlocks}
 
 -- Frames that come leave the peer's counts as they are known, but those that tell counts
 

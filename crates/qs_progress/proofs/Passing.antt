@@ -16,7 +16,7 @@ use Rattle.qs_send.specs.declared.piece.Piece.TheVariants.{Data, Told}
 use Rattle.qs_machine.specs.Ends.{End, is_own, opens, opened_by_peer, on_send}
 use Rattle.qs_machine.specs.Credit.{settle}
 use Rattle.qs_machine.specs.Seen.{Seen, Ack, Stream, Control, seen, seen_all, any_asks}
-use Rattle.qs_machine.specs.FrameStep.{AckedPiece, frame_taken, frames_taken, without_piece, acks, first_acked, piece_acked, named, is_named, NoFault}
+use Rattle.qs_machine.specs.FrameStep.{AckedPiece, frame_taken, frames_taken, without_piece, acks, first_acked, piece_acked, is_named, NoFault}
 use Rattle.qs_machine.specs.Recording.{recorded}
 use Rattle.qs_machine.specs.Plains.{is_plain}
 use Rattle.qs_machine.specs.Ways.{is_ack}

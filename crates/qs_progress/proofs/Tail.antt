@@ -1,11 +1,8 @@
 -- Rest comes two rounds after nothing is left to send.
-use Rattle.std.proofs.Common.{◌≡◌, ℕ, zero, suc, ◌<◌, Bool, true, false, List, [], ◌∷◌, ◌⊎◌, Option, Some, None, refl, sym, ap, ◌∙◌, subst, inl, inr, arith}
-use Rattle.std.specs.Prelude.{⊤, Ok}
+use Rattle.std.proofs.Common.{◌≡◌, ℕ, zero, suc, true, List, [], ◌∷◌, Option, Some, None, sym, ap, ◌∙◌, subst, inl, inr, arith}
+use Rattle.std.specs.Prelude.{⊤}
 use Rattle.std.proofs.lemmas.Bool.Decides.{nat_tests}
 use Rattle.qs_recv.specs.Lane.{RecvLane, read_answer, answer_by, after_read, after_answer}
-use Rattle.qs_recv.specs.declared.half.Read.{Read}
-use Rattle.qs_send.specs.Lane.{SendLane}
-use Rattle.qs_send.specs.declared.piece.Piece.{Piece}
 use Rattle.qs_calls.specs.declared.event.Side.{Side}
 use Rattle.qs_calls.specs.declared.event.Side.TheVariants.{A, B}
 use Rattle.qs_calls.specs.declared.settings.Settings.{Settings}
@@ -17,14 +14,12 @@ use Rattle.qs_machine.specs.Owner.{ReadBy, recv_refusal, is_read_no_more}
 use Rattle.qs_machine.specs.EndStep.{Call, Answer, EndStep, ReadUpTo, Consume, Peek}
 use Rattle.qs_machine.proofs.EveryCall.{by_refusal}
 use Rattle.qs_machine.proofs.TablesAfter.{updated_back}
-use Rattle.qs_runs.specs.Clauses.{sending}
 use Rattle.qs_runs.specs.Logs.{other}
-use Rattle.qs_runs.specs.Worlds.{World, end_of, WorldStep}
+use Rattle.qs_runs.specs.Worlds.{World, end_of}
 use Rattle.qs_runs.proofs.Claims.{run_settled}
-use Rattle.qs_runs.proofs.Histories.{two_sides, back_again}
-use Rattle.qs_rest.specs.Rest.{AtRest, HasMore, TellsNoNews}
+use Rattle.qs_runs.proofs.Histories.{two_sides}
+use Rattle.qs_rest.specs.Rest.{HasMore, TellsNoNews}
 use Rattle.qs_progress.specs.Laps.{Moment, Trail}
-use Rattle.qs_progress.specs.Outstanding.{IsIn}
 use Rattle.qs_progress.specs.Comes.{BothOpen, BothRest, IsReached}
 use Rattle.qs_progress.specs.Rounds.{IsRead, Sends, TakesTurn, Round}
 use Rattle.qs_progress.proofs.Trails.{reached}
