@@ -1,11 +1,10 @@
 //! Random runs of two ends, each led to rest by laps, whose number is held against the bound of the law `rest_comes` (docs/PROOF.md): by
-//! payloads, by frames and tokens, and by both. A lap ends here as soon as it is one, so that there are as many as can be. And the same runs
-//! led to rest by rounds, against that of `rest_comes_in_rounds`.
+//! payloads, by frames and tokens, and by both. A lap ends here as soon as it is one, so that there are as many as can be.
 //!
 //! Slips that were planted in a copy, one at a time, and that these tests found: MAX_DATA, MAX_STREAM_DATA, MAX_STREAMS, STREAMS_BLOCKED,
 //! RESET_STREAM, DATA_BLOCKED or STREAM_DATA_BLOCKED is told again though it was acknowledged. And of the tests themselves: packets are lost
-//! in a lap, or it ends while one is outstanding, an end never had nothing more to send, or its readers nothing more to read; in a round
-//! nothing is declared lost, or nothing is read; the bound leaves out the bytes.
+//! in a lap, or it ends while one is outstanding, an end never had nothing more to send, or its readers nothing more to read; the
+//! bound leaves out the bytes.
 
 mod support;
 
@@ -53,7 +52,6 @@ struct Run {
     may_read: bool,
     calls: usize,
     laps: u64,
-    rounds: u64,
     stretches: u64,
     what: String,
 }
@@ -84,7 +82,6 @@ impl Run {
             may_read: true,
             calls: 0,
             laps: 0,
-            rounds: 0,
             stretches: 0,
             what: format!("seed {seed}"),
         }
@@ -325,61 +322,8 @@ impl Run {
         }
     }
 
-    // An end's turn: it declares lost what is outstanding, and sends until nothing may go. Its rooms are small, often too small for all ranges
-    // of an ACK.
-    fn turn(&mut self, side: usize) {
-        while let Some(number) = self.ends[side].next_outstanding(0) {
-            assert_eq!(self.ends[side].declare_lost(number), Ok(()));
-        }
-        let room = 128 + self.random.below(70) as usize;
-        while self.sends(side, room) {
-            let packet = self.packets[side].last_mut().expect("one was made");
-            packet.taken.fill(true);
-            let number = packet.token.number;
-            let came = self.ends[1 - side].receive(number, &packet.text);
-            assert_eq!(came, Ok(Received::Done), "{}", self.what);
-        }
-    }
-
-    // An ACK alone, a fill or a packet, and whether one was made.
-    fn sends(&mut self, side: usize, room: usize) -> bool {
-        let before = self.packets[side].len();
-        match self.random.below(3) {
-            0 => self.make_ack(side),
-            1 => self.fill(side, room),
-            _ => {}
-        }
-        if self.packets[side].len() == before {
-            let mut out = vec![0; room];
-            let made = self.ends[side].make_packet(&mut out).expect("open");
-            let text = made.map(|made| out[..made.len].to_vec());
-            self.keep(side, text);
-        }
-        self.packets[side].len() > before
-    }
-
-    // A round: both take their turns, and then both read.
-    fn round(&mut self) {
-        for side in 0..2 {
-            self.turn(side);
-        }
-        for side in 0..2 {
-            while !is_read(&self.ends[side]) {
-                self.read(side);
-            }
-        }
-        self.rounds += 1;
-        let bound = self.most() + self.stretches + 1;
-        assert!(
-            self.rounds <= bound,
-            "{}: {} rounds",
-            self.what,
-            self.rounds
-        );
-    }
-
-    // Laps, or rounds, of which none begins at rest, and between them stretches in which anything happens.
-    fn course(&mut self, leads: fn(&mut Run)) {
+    // Laps, of which none begins at rest, and between them stretches in which anything happens.
+    fn course(&mut self) {
         for _ in 0..EVENTS {
             self.any_call();
         }
@@ -388,7 +332,7 @@ impl Run {
                 if self.ends.iter().all(is_at_rest) {
                     break;
                 }
-                leads(self);
+                self.lap();
             }
             self.may_read = true;
             for _ in 0..self.random.below(EVENTS as u64) {
@@ -397,7 +341,7 @@ impl Run {
             self.stretches += 1;
         }
         while !self.ends.iter().all(is_at_rest) {
-            leads(self);
+            self.lap();
         }
     }
 }
@@ -408,7 +352,7 @@ fn laps_lead_every_run_to_rest_within_the_bound() {
     let mut nearest = 0.0_f64;
     for seed in 0..SEEDS {
         let mut run = Run::new(seed);
-        run.course(Run::lap);
+        run.course();
         laps += run.laps;
         calls += run.calls;
         bound += run.bound();
@@ -420,23 +364,6 @@ fn laps_lead_every_run_to_rest_within_the_bound() {
     );
     // The runs need more laps than one for each stretch.
     assert!(laps > 2 * stretches, "{laps} laps");
-}
-
-#[test]
-fn rounds_lead_every_run_to_rest_within_the_bound() {
-    let (mut rounds, mut stretches) = (0, 0);
-    let mut nearest = 0.0_f64;
-    for seed in 0..SEEDS {
-        let mut run = Run::new(seed);
-        run.course(Run::round);
-        rounds += run.rounds;
-        stretches += run.stretches;
-        nearest = nearest.max(run.rounds as f64 / (run.most() + run.stretches + 1) as f64);
-    }
-    println!(
-        "{SEEDS} runs: {rounds} rounds and {stretches} stretches; {nearest:.3} of those that may be at most"
-    );
-    assert!(rounds > 2 * stretches, "{rounds} rounds");
 }
 
 /// An end that is blocked says so, and not again once that is acknowledged, though it stays blocked.

@@ -1,6 +1,7 @@
-//! Random courses of rounds, with stretches between them in which anything happens, held against the bound of the law
-//! `all_is_read_in_rounds` (docs/PROOF.md): how many rounds begin before all that was written was read, by the windows that it fills. And
-//! runs that refute less: a term left out, or the fullest stream in place of the sum.
+//! Random courses of rounds, with stretches between them in which anything happens, held against the bounds of the laws
+//! `rest_comes_in_rounds` and `all_is_read_in_rounds` (docs/PROOF.md): how many rounds begin before both ends are at rest, and before all
+//! that was written was read, by the windows that it fills. And runs that refute less: a term left out, or the fullest stream in place of
+//! the sum.
 
 mod support;
 
@@ -12,6 +13,9 @@ use support::Random;
 use support::doubled::{Want, all_frames, fill_one};
 
 const SEEDS: u64 = 300;
+/// So many rounds for each stretch, and as many, until all was read, and until both ends are at rest.
+const READ: u64 = 3;
+const REST: u64 = 5;
 
 /// A window as its reader keeps it, and its steps: that of the connection, or of a stream.
 type Window = Option<StreamId>;
@@ -128,26 +132,41 @@ impl Course {
         (sent - began) / (least.unwrap_or(u64::MAX - 1) + 1)
     }
 
-    fn bound(&self) -> u64 {
+    fn bound(&self, each: u64) -> u64 {
         let filled = [0, 1].map(|side| self.filled(side));
         let widths: u64 = filled
             .iter()
             .map(|(conn, streams)| conn + streams.iter().sum::<u64>())
             .sum();
-        2 * widths + 3 * self.stretches + 3
+        2 * widths + each * self.stretches + each
     }
 
     fn turn(&mut self, side: usize, room: usize) {
         while let Some(number) = self.ends[side].next_outstanding(0) {
             assert_eq!(self.ends[side].declare_lost(number), Ok(()));
         }
-        let mut out = vec![0; room];
-        while let Some(made) = self.ends[side].make_packet(&mut out).expect("open") {
-            let token = self.ends[side].token_of(made.number);
-            self.packets[side].push((token, out[..made.len].to_vec()));
-            let came = self.ends[1 - side].receive(made.number, &out[..made.len]);
+        while let Some((token, text)) = self.next(side, room) {
+            let came = self.ends[1 - side].receive(token.number, &text);
             assert_eq!(came, Ok(Received::Done));
+            self.packets[side].push((token, text));
         }
+    }
+
+    // The next packet of an end, if something may go: by its number an ACK alone, a fill or any.
+    fn next(&mut self, side: usize, room: usize) -> Option<(Token, Vec<u8>)> {
+        let end = &mut self.ends[side];
+        let mut out = vec![0; room];
+        let ack = match end.next_number() % 3 {
+            0 => end.make_ack(0, &mut out).expect("open"),
+            1 => match fill_one(end, &Want::all(), room) {
+                Some((filled, text)) => return Some((filled.token, text)),
+                None => None,
+            },
+            _ => None,
+        };
+        let made = ack.or_else(|| end.make_packet(&mut out).expect("open"))?;
+        out.truncate(made.len);
+        Some((end.token_of(made.number), out))
     }
 
     fn read_all(&mut self, side: usize) {
@@ -317,32 +336,26 @@ fn random_course(seed: u64) -> Course {
 }
 
 #[test]
-fn all_is_read_within_the_bound() {
+fn rest_comes_within_the_bound() {
     let seeds =
         std::env::var("ROUNDS_SEEDS").map_or(SEEDS, |seeds| seeds.parse().expect("a number"));
-    let (mut unread, mut stretches, mut nearest) = (0, 0, 0.0_f64);
+    let (mut rounds, mut stretches, mut nearest) = (0, 0, [0.0_f64; 2]);
     for seed in 0..seeds {
         let course = random_course(seed);
-        let bound = course.bound();
-        assert!(
-            course.unread <= bound,
-            "seed {seed}: {} rounds, {bound}",
-            course.unread
-        );
-        // Rest comes two rounds later.
-        assert!(
-            course.busy <= bound + 2 * course.stretches + 2,
-            "seed {seed}: {} rounds",
-            course.busy
-        );
-        unread += course.unread;
+        let seen = [(course.unread, READ), (course.busy, REST)];
+        for (near, (seen, each)) in nearest.iter_mut().zip(seen) {
+            let bound = course.bound(each);
+            assert!(seen <= bound, "seed {seed}: {seen} rounds, {bound}");
+            *near = near.max(seen as f64 / bound as f64);
+        }
+        rounds += course.busy;
         stretches += course.stretches;
-        nearest = nearest.max(course.unread as f64 / bound as f64);
     }
+    let [read, rest] = nearest;
     println!(
-        "{seeds} runs: {unread} rounds and {stretches} stretches; {nearest:.3} of those that may be at most"
+        "{seeds} runs: {rounds} rounds and {stretches} stretches; {read:.3} of those until all is read that may be at most, {rest:.3} until rest"
     );
-    assert!(unread > stretches);
+    assert!(rounds > stretches);
 }
 
 // A client with windows of the connection and of each stream, moved by half, and some streams that it opened.
@@ -384,7 +397,8 @@ fn windows_count() {
         course.rest();
         let (connection, streams) = course.filled(0);
         assert_eq!(connection.min(streams[0]), 0);
-        assert!(course.unread > 3 && course.unread <= course.bound());
+        assert!(course.unread > READ && course.unread <= course.bound(READ));
+        assert!(course.busy > REST && course.busy <= course.bound(REST));
     }
 }
 
@@ -395,8 +409,10 @@ fn all_streams_count() {
     write_each(&mut course, 200);
     let (connection, streams) = course.filled(0);
     let fullest = streams.into_iter().max().expect("ten");
-    assert!(course.unread > 2 * (connection + fullest) + 3 * course.stretches + 3);
-    assert!(course.unread <= course.bound());
+    for (seen, each) in [(course.unread, READ), (course.busy, REST)] {
+        assert!(seen > 2 * (connection + fullest) + each * course.stretches + each);
+        assert!(seen <= course.bound(each));
+    }
 }
 
 /// Stretches count that fill no window, and so does a stream that is held back by a byte as the course begins.
@@ -404,14 +420,16 @@ fn all_streams_count() {
 fn stretches_and_beginnings_count() {
     let mut course = client(1 << 20, 1 << 20, 10);
     write_each(&mut course, 1);
-    assert!(course.unread > course.bound() - 3 * course.stretches);
+    assert!(course.unread > course.bound(READ) - READ * course.stretches);
+    assert!(course.busy > course.bound(REST) - REST * course.stretches);
     let mut course = client(1 << 20, 100, 1);
     course.write(0, course.streams[0], 49);
     course.rest();
     course.write(0, course.streams[0], 52);
     course.begin();
     course.rest();
-    assert!(course.unread > course.bound() - 3);
+    assert!(course.unread > course.bound(READ) - READ);
+    assert!(course.busy > course.bound(REST) - REST);
 }
 
 /// Rest may take five rounds after a stretch, though no window of a stream is filled: nearly a window is, its limit then moves, and the last
@@ -466,8 +484,12 @@ fn figures() {
             let mut in_turn = client_by(conn, stream, streams, share);
             write_each(&mut in_turn, count);
             for (course, how) in [(at_once, "at once"), (in_turn, "one after another")] {
-                let (seen, bound) = (course.unread, course.bound());
-                println!("{what}, 1/{}, {how}: {seen} rounds of {bound}", share.1);
+                let (read, rest) = (course.unread, course.busy);
+                let (most_read, most) = (course.bound(READ), course.bound(REST));
+                let part = share.1;
+                println!(
+                    "{what}, 1/{part}, {how}: {read} rounds of {most_read}, to rest {rest} of {most}"
+                );
             }
         }
     }

@@ -1,29 +1,28 @@
 -- Whether the present value of a control item was acknowledged goes by that value.
-use Rattle.std.proofs.Common.{◌≡◌, ℕ, ◌≤◌, true, List, [], ◌∷◌, ◌⊎◌, Some, is_some, refl, sym, ap, ◌∙◌, subst, arith, inl, inr}
+use Rattle.std.proofs.Common.{◌≡◌, ℕ, true, List, [], ◌∷◌, ◌⊎◌, is_some, refl, sym, ap, ◌∙◌, subst, arith, inl, inr}
 use Rattle.std.proofs.lemmas.Bool.{cond_both}
 use Rattle.std.proofs.lemmas.Bool.Decides.{nat_tests}
 use Rattle.std.proofs.lemmas.Option.{same_Some}
-use Rattle.qs_wire.specs.declared.stream_id.Dir.TheVariants.{Bidi, Uni}
+use Rattle.qs_wire.specs.declared.stream_id.Dir.TheVariants.{Uni}
 use Rattle.qs_recv.specs.Lane.{RecvLane}
 use Rattle.qs_send.specs.Lane.{SendLane}
 use Rattle.qs_send.specs.Records.{Among}
 use Rattle.qs_send.specs.declared.piece.Item.{Item}
 use Rattle.qs_send.specs.declared.piece.Item.TheVariants.{MaxData, MaxStreamData, MaxStreams, ResetStream, StopSending, DataBlocked, StreamDataBlocked, StreamsBlocked}
-use Rattle.qs_send.specs.declared.piece.Piece.{Piece}
 use Rattle.qs_send.specs.declared.piece.Piece.TheVariants.{Told}
 use Rattle.qs_machine.specs.Tables.{lookup}
 use Rattle.qs_machine.specs.Ends.{End, is_own, opens, opened_by_peer}
 use Rattle.qs_machine.specs.Credit.{granted_streams}
 use Rattle.qs_machine.specs.Due.{IsAcked, known_count}
-use Rattle.qs_machine.specs.Seen.{Seen, Ack, Stream, Control}
+use Rattle.qs_machine.specs.Seen.{Ack, Stream, Control}
 use Rattle.qs_machine.specs.FrameStep.{AckedPiece, acks, first_acked, without_piece, frame_taken, named}
 use Rattle.qs_machine.specs.EndStep.{Call, Answer as CallAnswer, EndStep}
 use Rattle.qs_machine.proofs.EachHalf.{SendEdit, send_edited, sends_kept}
 use Rattle.qs_runs.specs.Worlds.{end_of}
 use Rattle.qs_runs.proofs.Stays.{each_side}
-use Rattle.qs_progress.specs.Within.{IsKept, WasPut, IsWithin, AllWithin}
+use Rattle.qs_progress.specs.Within.{IsKept, IsWithin, AllWithin}
 use Rattle.qs_progress.specs.Outstanding.{IsWhollyAcked}
-use Rattle.qs_progress.specs.Acknowledged.{IsPresent, IsOther, GoesByValue, AcknowledgedGoesByValue, AcksTellPresent, IsNamedBy, OnlyAcksTell}
+use Rattle.qs_progress.specs.Acknowledged.{IsPresent, IsOther, GoesByValue, AcknowledgedGoesByValue, AcksTellPresent, OnlyAcksTell}
 use Rattle.qs_progress.proofs.Items.{grown_call, items_acks}
 use Rattle.qs_progress.proofs.Within.{items_are_within, all_within_call, from_call, within_call, present_within, now_within, kept_piece, put_named, all_there}
 use Rattle.qs_progress.proofs.Outstanding.{AcksStay, HasHome, home_stays, in_piece, in_acks, reached_now, reached_stays}

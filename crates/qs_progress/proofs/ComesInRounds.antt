@@ -1,7 +1,7 @@
 -- Rest comes by rounds: from the end of A's turn to the end of its next turn, where the round between doesn't begin at rest, something is
 -- done for good.
 use Rattle.std.proofs.lemmas.Bool.Decides.{nat_tests}
-use Rattle.std.proofs.Common.{◌≡◌, ℕ, ◌+◌, ◌<◌, ◌≤◌, Bool, true, false, List, [], ◌∷◌, ◌++◌, ◌⊎◌, refl, sym, ap, ◌∙◌, subst, arith, inl, inr}
+use Rattle.std.proofs.Common.{◌≡◌, ℕ, ◌+◌, ◌<◌, ◌≤◌, true, List, [], ◌∷◌, ◌++◌, ◌⊎◌, refl, sym, ap, ◌∙◌, subst, arith, inl, inr}
 use Rattle.std.specs.Prelude.{⊤}
 use Rattle.std.specs.FinSet as set
 use Rattle.qs_send.specs.Records.{Among}
@@ -19,14 +19,13 @@ use Rattle.qs_rest.specs.Rest.{HasMore}
 use Rattle.qs_progress.specs.Score.{score}
 use Rattle.qs_progress.specs.Laps.{Moment, IsCalm, Trail, Sometime}
 use Rattle.qs_progress.specs.Outstanding.{IsIn}
-use Rattle.qs_progress.specs.Comes.{BothRest, BothOpen, IsReached, Course, steps_in, stretches_in, RestComesInRounds, AllComesInRounds}
+use Rattle.qs_progress.specs.Comes.{BothRest, BothOpen, IsReached}
 use Rattle.qs_progress.specs.Rounds.{IsRead, TakesTurn, Round}
-use Rattle.qs_progress.proofs.Bound.{is_below}
 use Rattle.qs_progress.proofs.Trails.{eased, joined, last_of}
 use Rattle.qs_progress.proofs.Passing.{Owes, IsClear}
 use Rattle.qs_progress.proofs.Turns.{HasLost, below_next, loses, loses_trail, sends, tells, sends_trail, sends_all}
 use Rattle.qs_progress.proofs.Pairs.{Legs, leads, legs_raise}
-use Rattle.qs_progress.proofs.Comes.{both, Rests, trail, course_open, rest_misses}
+use Rattle.qs_progress.proofs.Comes.{both, trail}
 
 -- Reads
 
@@ -128,7 +127,7 @@ module _ (a b : Settings) where
     b_sends = sends a b B first.turn_b.2.0 lost_b first.sent_b lost_b.ends.b.next to_lost_b.0 first.turn_b.2.1 (owes_none lost_b to_lost_b.0 B b_lost.clear)
 
     -- what A sent is acknowledged
-    a_clear : IsClear first.sent_b.ends.a
+    pub a_clear : IsClear first.sent_b.ends.a
     a_clear =
         tells a b B first.turn_b.2.0 lost_b first.sent_b lost_a.ends.a.next first.sent_a.ends.a.next to_lost_b.0 first.turn_b.2.1
         (inl (owes_as _ _ first.sent_a.ends.a lost_b.ends.a first.sent_a.ends.b lost_b.ends.b (ap (λ (e : End). e.outstanding) b_lost.there) b_lost.here.done b_lost.here.due a_sent.1))
@@ -224,8 +223,6 @@ module _ (a b : Settings) where
       pub turns_raise : BothOpen mid.ends → (BothRest mid.ends → ⊥) → both first.sent_a.ends < both sent.ends
       turns_raise unclosed begins = (let grew = legs_raise a b lost_b mid again sent grows (legs unclosed) begins in let up = to_lost_b.1 in omega (arith, grew, up))
 
-  -- Courses of rounds
-
   -- what comes before: anything, or a round
   abbrev pub Before : Moment → Type 0
   Before old = Unit {0} ⊎ ((past : Moment) × IsReached a b past × Round past old)
@@ -247,28 +244,3 @@ module _ (a b : Settings) where
   pub level_grows : (old new : Moment) (before : Before old) → IsReached a b old → BothOpen old.ends → (BothRest old.ends → ⊥) → (round : Round old new) → level old before ≤ both round.sent_a.ends
   level_grows old new (inl u) r unclosed begins round = (let (there, low, high) = ends_up old new r round in low)
   level_grows old new (inr (past, was, first)) r unclosed begins round = (let grew = turns_raise past old was first round.sent_a round.turn_a unclosed begins in omega (arith, grew))
-
-  courses : (parts : List Bool) (old new : Moment) (before : Before old) → IsReached a b old → Course Round Rests parts old new → BothOpen new.ends →
-      IsReached a b new × (steps_in parts + level old before ≤ both new.ends + stretches_in parts + 1)
-  courses [] old new before r is open_end =
-      let low = level_low old before in
-      subst (λ m. IsReached a b m × (0 + level old before ≤ both m.ends + 0 + 1)) (sym is) (r, omega (arith, low))
-  courses (true ∷ parts) old new before r (begins, mid, round, rest) open_end =
-      let (at_mid, low, high) = ends_up old mid r round in
-      let grew = level_grows old mid before r (course_open Round round_leads Rests (true ∷ parts) old new (begins, mid, round, rest) open_end) begins round in
-      let (there, later) = courses parts mid new (inr (old, r, round)) at_mid rest open_end in
-      (there, omega (arith, grew, later))
-  courses (false ∷ parts) old new before r (ms, next, stretch, rest) open_end =
-      let low = level_low old before in
-      let (at_next, more) = trail a b (λ call. ⊤) ms old next r stretch in
-      let (there, later) = courses parts next new (inl tt) at_next rest open_end in
-      (there, omega (arith, low, more, later))
-
-pub rest_comes_in_rounds : RestComesInRounds
-rest_comes_in_rounds a b parts old new r course open_end =
-    let (there, counted) = courses a b parts old new (inl tt) r course open_end in
-    let few = is_below a b new.log new.ends there.run there.knows_first in
-    omega (arith, counted, few)
-
-pub all_comes_in_rounds : AllComesInRounds
-all_comes_in_rounds a b parts old new r course open_end = rest_comes_in_rounds a b parts old new r (rest_misses a b Round round_leads parts old new r course) open_end

@@ -1,8 +1,6 @@
 -- What widths are, what fills them, and where not all is read.
 use Rattle.std.proofs.lemmas.Bool.Decides.{nat_tests}
 use Rattle.std.proofs.Common.{◌≡◌, ℕ, List, [], ◌∷◌, refl, arith}
-use Rattle.qs_recv.specs.Lane.{step}
-use Rattle.qs_recv.specs.declared.credit.Share.{Share}
 use Rattle.qs_calls.specs.declared.event.Side.TheVariants.{A}
 use Rattle.qs_machine.specs.SmallEnds.{abc}
 use Rattle.qs_machine.specs.Tables.{lookup, total}

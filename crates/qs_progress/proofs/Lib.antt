@@ -45,4 +45,10 @@ pub mod Paid
 pub mod Charged
 pub mod Unwritten
 pub mod ReadInRounds
+pub mod From
+pub mod Ceased
+pub mod Eased
+pub mod Moves
+pub mod Tail
+pub mod RestInRounds
 pub mod ExclusionsWindows

@@ -16,8 +16,9 @@ use Rattle.qs_send.specs.declared.piece.Piece.TheVariants.{Data, Told}
 use Rattle.qs_machine.specs.Ends.{End, is_own, opens, opened_by_peer, on_send}
 use Rattle.qs_machine.specs.Credit.{settle}
 use Rattle.qs_machine.specs.Seen.{Seen, Ack, Stream, Control, seen, seen_all, any_asks}
-use Rattle.qs_machine.specs.FrameStep.{AckedPiece, frame_taken, frames_taken, without_piece, acks, first_acked, piece_acked, named, is_named, NoFault}
+use Rattle.qs_machine.specs.FrameStep.{AckedPiece, frame_taken, frames_taken, without_piece, acks, first_acked, piece_acked, is_named, NoFault}
 use Rattle.qs_machine.specs.Recording.{recorded}
+use Rattle.qs_machine.specs.Plains.{is_plain}
 use Rattle.qs_machine.specs.Ways.{is_ack}
 use Rattle.qs_machine.specs.Lawful.{MayAck, MayPut, Fills, frame_put, noted, chunk_of}
 use Rattle.qs_machine.specs.Making.{NamesMost}
@@ -131,6 +132,7 @@ pub record Passed (e e2 f f2 : End) : Type 0 where
   pub fine : NoFault f came
   pub took : f2 ≡ recorded e.next (any_asks came) (settle (frames_taken came f))
   pub acks : (g : Seen) → Among g frames → is_ack g ≡ true → Among g came
+  pub only : (g : Seen) → Among g came → is_plain g ≡ false → Among g frames
   pub asks : (p : Piece) → IsIn e2.outstanding e.next p → any_asks came ≡ true
   pub sound : IsSound f
   pub sent : SentWasWritten f

@@ -1,5 +1,5 @@
 -- All is read in time: where not all was read as a round begins, each of the two rounds before it but one filled a width.
-use Rattle.std.proofs.Common.{◌≡◌, ℕ, ◌+◌, ◌*◌, ◌<◌, ◌≤◌, Bool, true, false, not, ◌&&◌, List, [], ◌∷◌, ◌⊎◌, Option, Some, None, is_some, length, refl, sym, ap, ◌∙◌, subst, arith, inl, inr, length-append}
+use Rattle.std.proofs.Common.{◌≡◌, ℕ, zero, suc, ◌+◌, ◌*◌, ◌<◌, ◌≤◌, Bool, true, false, not, ◌&&◌, List, [], ◌∷◌, Option, Some, None, is_some, length, refl, sym, ap, ◌∙◌, subst, arith, inl, inr, length-append}
 use Rattle.std.specs.Prelude.{⊤}
 use Rattle.std.proofs.lemmas.Bool.{cases_lt, true≢false}
 use Rattle.std.proofs.lemmas.Option.{none-some}
@@ -76,6 +76,7 @@ module _ (a b : Settings) where
     pub seen : Moment
     pub to_seen : Later a b sent seen
     pub from_seen : Later a b seen new
+    pub after : (ns : List Moment) × Trail IsRead seen ns new
     pub quiet : (n : ℕ) (r : RecvLane) → receiving seen.ends s n ≡ Some r → TellsNoNews (read_answer r 1) r
 
   module _ (old new : Moment) (r : IsReached a b old) (round : Round old new) (unclosed : BothOpen new.ends) where
@@ -99,6 +100,7 @@ module _ (a b : Settings) where
       seen : Moment
       to_seen : Later a b round.sent_b seen
       from_seen : Later a b seen new
+      after : (ns : List Moment) × Trail IsRead seen ns new
       quiet : (n : ℕ) (l : RecvLane) → recv_lane (end_of seen.ends t) n ≡ Some l → TellsNoNews (read_answer l 1) l
 
     seen_by : (t : Side) → Seen t
@@ -110,6 +112,7 @@ module _ (a b : Settings) where
           seen = m;
           to_seen = first;
           from_seen = led_to m new first.is_reached (reads_on ns m new after);
+          after = (ns, after);
           quiet = quiet_at m first.is_reached (trail_open IsRead ns m new after unclosed) t least;
         }
 
@@ -125,6 +128,7 @@ module _ (a b : Settings) where
           seen = by.seen;
           to_seen = later_twice a b round.sent_a round.sent_b by.seen a_to_b by.to_seen;
           from_seen = by.from_seen;
+          after = by.after;
           quiet = by.quiet;
         }
 
@@ -139,13 +143,14 @@ module _ (a b : Settings) where
           seen = by.seen;
           to_seen = by.to_seen;
           from_seen = by.from_seen;
+          after = by.after;
           quiet = by.quiet;
         }
 
   -- Where nothing was left to send, all is read
 
   -- no half of an end has more to send
-  abbrev NoneLeft : Side → Moment → Type 0
+  abbrev pub NoneLeft : Side → Moment → Type 0
   NoneLeft s m = (n : ℕ) (l : SendLane) → sending m.ends s n ≡ Some l → l.was_reset ≡ None → l.sent_end < l.written → ⊥
 
   module _ (s : Side) (old sent new : Moment) (half : Half s old sent new) (none_left : NoneLeft s sent) (n : ℕ) (unbroken : broken_off s n new.log ≡ false) (going : stopped (other s) n new.log ≡ false) where
@@ -327,13 +332,13 @@ module _ (a b : Settings) where
       b_between : Later a b x1.0.sent_b x3.0.sent_b
       b_between = later_twice a b x1.0.sent_b m1 x3.0.sent_b b1.to_new (later_twice a b m1 m2 x3.0.sent_b to_2 b3.to_sent)
 
-      a_none : level_of m2 m3 x3 ≤ level_of m0 m1 x1 → NoneLeft A x3.0.sent_a
+      pub a_none : level_of m2 m3 x3 ≤ level_of m0 m1 x1 → NoneLeft A x3.0.sent_a
       a_none even =
           let grows = fills_on B x1.0.sent_b x3.0.sent_b b_between in
           fills_or_none A x1.0.sent_a a1.seen m1 x2.0.sent_b x3.0.sent_a a_turns (x1.1 B) (later_twice a b begun m0 x1.0.sent_a since a1.to_sent) a_between
           (later_twice a b x3.0.sent_a m3 last a3.to_new until) (omega (arith, even, grows))
 
-      b_none : level_of m2 m3 x3 ≤ level_of m0 m1 x1 → NoneLeft B x3.0.sent_b
+      pub b_none : level_of m2 m3 x3 ≤ level_of m0 m1 x1 → NoneLeft B x3.0.sent_b
       b_none even =
           let grows = fills_on A x1.0.sent_a x3.0.sent_a a_between in
           fills_or_none B x1.0.sent_b b1.seen m1 x2.0.sent_a x3.0.sent_b b_turns (x1.1 A) (later_twice a b begun m0 x1.0.sent_b since b1.to_sent) b_between
@@ -343,114 +348,110 @@ module _ (a b : Settings) where
       all_is_read even A n unbroken going = is_read A m2 x3.0.sent_a m3 a3 (a_none even) n unbroken going
       all_is_read even B n unbroken going = is_read B m2 x3.0.sent_b m3 b3 (b_none even) n unbroken going
 
-    -- Courses
+    -- Rounds in a row
 
-    -- one, two or three rounds that came before
-    pub record One (old : Moment) : Type 0 where
-      pub m0 : Moment
-      pub is_reached : IsReached a b m0
-      pub since : Later a b begun m0
-      pub first : WideRound k m0 old
+    -- so many led here
+    abbrev pub Row : ℕ → Moment → Type 0
+    Row zero old = IsReached a b old × Later a b begun old
+    Row (suc n) old = (m : Moment) × Row n m × WideRound k m old
 
-    pub record Two (old : Moment) : Type 0 where
-      pub m0 : Moment
-      pub m1 : Moment
-      pub is_reached : IsReached a b m0
-      pub since : Later a b begun m0
-      pub first : WideRound k m0 m1
-      pub second : WideRound k m1 old
+    pub row_led : (n : ℕ) (old : Moment) → Row n old → IsReached a b old × Later a b begun old
+    row_led zero old row = row
+    row_led (suc n) old (m, row, x) =
+        let (r, since) = row_led n m row in
+        let on = later_round m old r x in
+        (on.is_reached, later_twice a b begun m old since on)
 
-    pub record Three (old : Moment) : Type 0 where
-      pub m0 : Moment
-      pub m1 : Moment
-      pub m2 : Moment
-      pub is_reached : IsReached a b m0
-      pub since : Later a b begun m0
-      pub first : WideRound k m0 m1
-      pub second : WideRound k m1 m2
-      pub third : WideRound k m2 old
+    -- all but the first of them
+    abbrev pub row_rest : (n : ℕ) (old : Moment) → Row (suc n) old → Row n old
+    row_rest zero old row = row_led 1 old row
+    row_rest (suc n) old (m, row, x) = (m, row_rest n m row, x)
 
-    abbrev pub Before : Moment → Type 0
-    Before old = Unit {0} ⊎ One old ⊎ Two old ⊎ Three old
+    -- what the first two filled
+    abbrev pub level : (n : ℕ) (old : Moment) → Row n old → ℕ
+    level zero old row = 2 * level_at old
+    level (suc zero) old (m, row, x) = 2 * level_at m
+    level (suc (suc zero)) old (m, (first, row, x), y) = level_of first m x + level_of m old y
+    level (suc (suc (suc n))) old (m, row, x) = level (suc (suc n)) m row
 
-    abbrev pub level : (old : Moment) → Before old → ℕ
-    level old (inl u) = 2 * level_at old
-    level old (inr (inl x)) = 2 * level_at x.m0 + 1
-    level old (inr (inr (inl x))) = level_of x.m0 x.m1 x.first + level_of x.m1 old x.second + 2
-    level old (inr (inr (inr x))) = level_of x.m0 x.m1 x.first + level_of x.m1 x.m2 x.second + 3
-
-    low : (old : Moment) (before : Before old) → BothOpen old.ends → level old before ≤ 2 * level_at old + 3
-    low old (inl u) unclosed = omega arith
-    low old (inr (inl x)) unclosed = (let up = within x.m0 old x.is_reached x.first unclosed in omega (arith, up.0, up.1))
-    low old (inr (inr (inl x))) unclosed =
-        let unclosed_1 = open_before x.m1 old x.second unclosed in
-        let up = within x.m0 x.m1 x.is_reached x.first unclosed_1 in
-        let more = within x.m1 old (later_round x.m0 x.m1 x.is_reached x.first).is_reached x.second unclosed in
+    low : (n : ℕ) (old : Moment) (row : Row n old) → BothOpen old.ends → level n old row ≤ 2 * level_at old
+    low zero old row unclosed = omega arith
+    low (suc zero) old (m, row, x) unclosed = (let up = within m old (row_led 0 m row).0 x unclosed in omega (arith, up.0, up.1))
+    low (suc (suc zero)) old (m, (first, row, x), y) unclosed =
+        let up = within first m (row_led 0 first row).0 x (open_before m old y unclosed) in
+        let more = within m old (row_led 1 m (first, row, x)).0 y unclosed in
         omega (arith, up.1, more.0, more.1)
-    low old (inr (inr (inr x))) unclosed =
-        let unclosed_2 = open_before x.m2 old x.third unclosed in
-        let unclosed_1 = open_before x.m1 x.m2 x.second unclosed_2 in
-        let r1 = (later_round x.m0 x.m1 x.is_reached x.first).is_reached in
-        let r2 = (later_round x.m1 x.m2 r1 x.second).is_reached in
-        let up = within x.m0 x.m1 x.is_reached x.first unclosed_1 in
-        let more = within x.m1 x.m2 r1 x.second unclosed_2 in
-        let most = within x.m2 old r2 x.third unclosed in
-        omega (arith, up.1, more.0, more.1, most.0, most.1)
+    low (suc (suc (suc n))) old (m, row, x) unclosed =
+        let few = low (suc (suc n)) m row (open_before m old x unclosed) in
+        let up = within m old (row_led (suc (suc n)) m row).0 x unclosed in
+        omega (arith, few, up.0, up.1)
 
-    rise : (old new : Moment) (before : Before old) → IsReached a b old → Later a b begun old → (IsAllRead old → ⊥) → (y : WideRound k old new) → BothOpen new.ends → Later a b old last →
-        (after : Before new) × (level old before + 1 ≤ level new after)
-    rise old new (inl u) r since begins y unclosed until = (inr (inl (record { m0 = old; is_reached = r; since = since; first = y })), omega arith)
-    rise old new (inr (inl x)) r since begins y unclosed until =
-        let up = within x.m0 old x.is_reached x.first (open_before old new y unclosed) in
-        let more = within old new r y unclosed in
-        (inr (inr (inl (record { m0 = x.m0; m1 = old; is_reached = x.is_reached; since = x.since; first = x.first; second = y }))), omega (arith, up.0, up.1, more.0))
-    rise old new (inr (inr (inl x))) r since begins y unclosed until =
-        (inr (inr (inr (record { m0 = x.m0; m1 = x.m1; m2 = old; is_reached = x.is_reached; since = x.since; first = x.first; second = x.second; third = y }))), omega arith)
-    rise old new (inr (inr (inr x))) r since begins y unclosed until =
-        let to_1 = later_round x.m0 x.m1 x.is_reached x.first in (
-          inr (inr (inr (record { m0 = x.m1; m1 = x.m2; m2 = old; is_reached = to_1.is_reached; since = later_twice a b begun x.m0 x.m1 x.since to_1; first = x.second; second = x.third; third = y }))),
-          elim (cases_lt (level_of x.m0 x.m1 x.first) (level_of x.m2 old x.third)) [
-            | inl lt ↦ omega (arith, lt)
-            | inr even ↦ absurd (begins (all_is_read x.m0 x.m1 x.m2 old x.is_reached x.first x.second x.third x.since until (open_before old new y unclosed) even))
-          ],
-        )
+    -- one more fills no less
+    more : (n : ℕ) (old new : Moment) (row : Row n old) (y : WideRound k old new) → BothOpen new.ends → level n old row ≤ level (suc n) new (old, row, y)
+    more zero old new row y unclosed = omega arith
+    more (suc zero) old new (m, row, x) y unclosed =
+        let up = within m old (row_led 0 m row).0 x (open_before old new y unclosed) in
+        let over = within old new (row_led 1 old (m, row, x)).0 y unclosed in
+        omega (arith, up.0, up.1, over.0)
+    more (suc (suc n)) old new row y unclosed = omega arith
 
-    course_later : (parts : List Bool) (old : Moment) → IsReached a b old → Course (WideRound k) IsAllRead parts old last → Later a b old last
-    course_later [] old r is = subst (Later a b old) (sym is) (later_same a b old r)
-    course_later (true ∷ parts) old r (begins, mid, step, rest) =
-        let first = later_round old mid r step in
-        later_twice a b old mid last first (course_later parts mid first.is_reached rest)
-    course_later (false ∷ parts) old r (ms, mid, stretch, rest) =
-        let first = onward a b (λ call. ⊤) ms old mid r stretch in
-        later_twice a b old mid last first (course_later parts mid first.is_reached rest)
+    -- Courses: where each round that begins where this doesn't hold, after so many others in a row, fills more than the first of these did
 
-    course_open : (parts : List Bool) (old : Moment) → Course (WideRound k) IsAllRead parts old last → BothOpen last.ends → BothOpen old.ends
-    course_open [] old is unclosed = subst (λ (m : Moment). BothOpen m.ends) is unclosed
-    course_open (true ∷ parts) old (begins, mid, step, rest) unclosed = open_before old mid step (course_open parts mid rest unclosed)
-    course_open (false ∷ parts) old (ms, mid, stretch, rest) unclosed = trail_open (λ call. ⊤) ms old mid stretch (course_open parts mid rest unclosed)
+    module _ (P : Moment → Type 0) (depth : ℕ) (fills_more : (n : ℕ) → depth ≤ n → n ≤ depth → (old new : Moment) (row : Row n old) (y : WideRound k old new) → Later a b old last → BothOpen old.ends → (P old → ⊥) → level n old row + 1 ≤ level n new (row_rest n new (old, row, y))) where
+      course_later : (parts : List Bool) (old : Moment) → IsReached a b old → Course (WideRound k) P parts old last → Later a b old last
+      course_later [] old r is = subst (Later a b old) (sym is) (later_same a b old r)
+      course_later (true ∷ parts) old r (begins, mid, step, rest) =
+          let first = later_round old mid r step in
+          later_twice a b old mid last first (course_later parts mid first.is_reached rest)
+      course_later (false ∷ parts) old r (ms, mid, stretch, rest) =
+          let first = onward a b (λ call. ⊤) ms old mid r stretch in
+          later_twice a b old mid last first (course_later parts mid first.is_reached rest)
 
-    pub courses : (parts : List Bool) (old : Moment) (before : Before old) → IsReached a b old → Later a b begun old → Course (WideRound k) IsAllRead parts old last → BothOpen last.ends →
-        steps_in parts + level old before ≤ 2 * level_at last + 3 * stretches_in parts + 3
-    courses [] old before r since is unclosed =
-        let same : last ≡ old = is in
-        let few = low old before (subst (λ (m : Moment). BothOpen m.ends) same unclosed) in
-        subst (λ (m : Moment). 0 + level old before ≤ 2 * level_at m + 3 * 0 + 3) (sym same) (omega (arith, few))
-    courses (true ∷ parts) old before r since (begins, mid, step, rest) unclosed =
-        let first = later_round old mid r step in
-        let open_mid = course_open parts mid rest unclosed in
-        let until = later_twice a b old mid last first (course_later parts mid first.is_reached rest) in
-        let (after, rises) = rise old mid before r since begins step open_mid until in
-        let counted = courses parts mid after first.is_reached (later_twice a b begun old mid since first) rest unclosed in
-        omega (arith, rises, counted)
-    courses (false ∷ parts) old before r since (ms, mid, stretch, rest) unclosed =
-        let first = onward a b (λ call. ⊤) ms old mid r stretch in
-        let few = low old before (trail_open (λ call. ⊤) ms old mid stretch (course_open parts mid rest unclosed)) in
-        let up_a = fills_on A old mid first in
-        let up_b = fills_on B old mid first in
-        let counted = courses parts mid (inl tt) first.is_reached (later_twice a b begun old mid since first) rest unclosed in
-        omega (arith, few, up_a, up_b, counted)
+      course_open : (parts : List Bool) (old : Moment) → Course (WideRound k) P parts old last → BothOpen last.ends → BothOpen old.ends
+      course_open [] old is unclosed = subst (λ (m : Moment). BothOpen m.ends) is unclosed
+      course_open (true ∷ parts) old (begins, mid, step, rest) unclosed = open_before old mid step (course_open parts mid rest unclosed)
+      course_open (false ∷ parts) old (ms, mid, stretch, rest) unclosed = trail_open (λ call. ⊤) ms old mid stretch (course_open parts mid rest unclosed)
+
+      pub courses : (parts : List Bool) (old : Moment) (n : ℕ) → n ≤ depth → (row : Row n old) → Course (WideRound k) P parts old last → BothOpen last.ends →
+          steps_in parts + level n old row + n ≤ 2 * level_at last + depth * stretches_in parts + depth
+      courses [] old n few row is unclosed =
+          let same : last ≡ old = is in
+          let below = low n old row (subst (λ (m : Moment). BothOpen m.ends) same unclosed) in
+          subst (λ (m : Moment). 0 + level n old row + n ≤ 2 * level_at m + depth * 0 + depth) (sym same) (omega (arith, few, below))
+      courses (true ∷ parts) old n few row (begins, mid, step, rest) unclosed =
+          let open_mid = course_open parts mid rest unclosed in
+          elim (cases_lt n depth) [
+            | inl lt ↦ (
+                let counted = courses parts mid (suc n) (omega (arith, lt)) (old, row, step) rest unclosed in
+                let grows = more n old mid row step open_mid in
+                omega (arith, counted, grows))
+            | inr ge ↦ (
+                let first = later_round old mid (row_led n old row).0 step in
+                let until = later_twice a b old mid last first (course_later parts mid first.is_reached rest) in
+                let grows = fills_more n ge few old mid row step until (open_before old mid step open_mid) begins in
+                let counted = courses parts mid n few (row_rest n mid (old, row, step)) rest unclosed in
+                omega (arith, counted, grows))
+          ]
+      courses (false ∷ parts) old n few row (ms, mid, stretch, rest) unclosed =
+          let (r, since) = row_led n old row in
+          let first = onward a b (λ call. ⊤) ms old mid r stretch in
+          let below = low n old row (trail_open (λ call. ⊤) ms old mid stretch (course_open parts mid rest unclosed)) in
+          let up_a = fills_on A old mid first in
+          let up_b = fills_on B old mid first in
+          let counted = courses parts mid 0 (omega arith) (first.is_reached, later_twice a b begun old mid since first) rest unclosed in
+          let parted : depth * (stretches_in parts + 1) ≡ depth * stretches_in parts + depth = omega arith in
+          omega (arith, few, below, up_a, up_b, counted, parted)
+
+    read_fills : (n : ℕ) → 3 ≤ n → n ≤ 3 → (old new : Moment) (row : Row n old) (y : WideRound k old new) → Later a b old last → BothOpen old.ends → (IsAllRead old → ⊥) → level n old row + 1 ≤ level n new (row_rest n new (old, row, y))
+    read_fills (suc (suc (suc zero))) ge le old new (m2, (m1, (m0, start, x1), x2), x3) y until unclosed begins =
+        elim (cases_lt (level_of m0 m1 x1) (level_of m2 old x3)) [
+          | inl lt ↦ omega (arith, lt)
+          | inr even ↦ absurd (begins (all_is_read m0 m1 m2 old start.0 x1 x2 x3 start.1 until unclosed even))
+        ]
+    read_fills (suc (suc (suc (suc n)))) ge le old new row y until unclosed begins = absurd (omega (arith, le))
+    read_fills n ge le old new row y until unclosed begins = absurd (omega (arith, ge))
 
 pub all_is_read_in_rounds : AllIsReadInRounds
 all_is_read_in_rounds a b k parts old new r course unclosed room =
-    let counted = courses a b k old new room parts old (inl tt) r (later_same a b old r) course unclosed in
+    let counted = courses a b k old new room IsAllRead 3 (read_fills a b k old new room) parts old 0 (omega arith) (r, later_same a b old r) course unclosed in
     omega (arith, counted)

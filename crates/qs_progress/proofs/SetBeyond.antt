@@ -19,7 +19,7 @@ use Rattle.qs_calls.specs.declared.settings.Settings.{Settings}
 use Rattle.qs_calls.specs.declared.settings.SetFault.{SetFault}
 use Rattle.qs_calls.specs.declared.event.Side.{Side}
 use Rattle.qs_calls.specs.declared.event.Side.TheVariants.{A, B}
-use Rattle.qs_machine.specs.Tables.{Tables, no_streams, table, lookup, update, updated, each, total}
+use Rattle.qs_machine.specs.Tables.{Tables, no_streams, table, lookup, update, updated, total}
 use Rattle.qs_machine.specs.Ends.{End, Present, is_own, is_uni, role_bit, peer_type, first_window, first_window_by, on_recv, opens, opened_by_peer}
 use Rattle.qs_machine.specs.Credit.{all_taken, ended, both_ended, recv_ended, count_step, settle}
 use Rattle.qs_machine.specs.Setting.{Setting, ConnWindow, Grant, SendBuffer, StreamWindow, SetStep, set_refusal, with_setting, count_with}

@@ -17,7 +17,7 @@ use Rattle.qs_calls.specs.declared.making.Made.{Made}
 use Rattle.qs_calls.specs.declared.making.MakeFault.{MakeFault}
 use Rattle.qs_calls.specs.declared.settings.Settings.{Settings}
 use Rattle.qs_machine.specs.Ends.{End}
-use Rattle.qs_machine.specs.Seen.{Seen, seen_all, asks_ack, any_asks}
+use Rattle.qs_machine.specs.Seen.{Seen, Plain, seen_all, asks_ack, any_asks}
 use Rattle.qs_machine.specs.Plains.{frames_in, is_plain}
 use Rattle.qs_machine.specs.Ways.{IsNew, is_ack}
 use Rattle.qs_machine.specs.Credit.{settle}
@@ -32,7 +32,7 @@ use Rattle.qs_machine.specs.Receiving.{ReceiveStep, ReceiveBy}
 use Rattle.qs_machine.specs.EndStep.{Call, Answer, EndStep, Receive, Make, MakeAck, FillIn, Claim, Lose}
 use Rattle.qs_machine.proofs.Plains.{differ_covers, differ_turned}
 use Rattle.qs_machine.proofs.Ways.{payload_frames, ack_packet}
-use Rattle.qs_runs.specs.Logs.{Happening, History, other, made, payload, effects_of, sent_in}
+use Rattle.qs_runs.specs.Logs.{Happening, History, other, made, payload, effects_of, sent_in, ping_text}
 use Rattle.qs_runs.specs.Pasts.{PieceOf, past}
 use Rattle.qs_runs.specs.Worlds.{end_of, IsPayload}
 use Rattle.qs_runs.proofs.Histories.{made_here, payload_seen, heard_some, theirs_mine, none_sent}
@@ -40,7 +40,7 @@ use Rattle.qs_runs.proofs.Claims.{run_settled}
 use Rattle.qs_runs.proofs.Lists.{slice_get-last}
 use Rattle.qs_runs.proofs.Runs.{run_keeps, processed_made}
 use Rattle.qs_runs.proofs.Standing.{certain_cases}
-use Rattle.qs_runs.proofs.Wire.{text_seen}
+use Rattle.qs_runs.proofs.Wire.{text_seen, ping_seen}
 use Rattle.qs_progress.specs.Laps.{Moment, IsCalm, Trail}
 use Rattle.qs_progress.specs.Comes.{IsReached}
 use Rattle.qs_progress.specs.Outstanding.{IsIn}
@@ -149,6 +149,7 @@ record Makes (e e2 : End) (text : List ℕ) : Type 0 where
   made : e2 ≡ settle (record last { next = e.next + 1 })
   names : (g : Seen) (at : End) → Among g frames → MayBe e at g → NamesTop e g
   reads : (g : Seen) → Among g frames → Among g (frames_in text)
+  back : (g : Seen) → Among g (frames_in text) → is_plain g ≡ false → Among g frames
 
 makes : (e e2 : End) (first delay room : ℕ) (made_it : Made) (text : List ℕ) → IsMade e first delay room made_it text e2 → Makes e e2 text
 makes e e2 first delay room made_it text it =
@@ -160,11 +161,17 @@ makes e e2 first delay room made_it text it =
       made = it.after ∙ ap settle ends;
       names = λ g at among may. named_top e at delay room it.frames it.spells.fits it.acks g among may;
       reads = λ g among. subst (Among g) (sym (text_seen delay it.frames text it.lawful.some it.spells)) among;
+      back = λ g among unplain. subst (Among g) (text_seen delay it.frames text it.lawful.some it.spells) among;
     }
 
 is_filled : (o : Option MakeFault) (e new : End) (want : Fill) (room : ℕ) (filled : Filled) (text : List ℕ) → FillAt o e want room (Ok (Some filled)) text new → IsFilled e want room filled text new
 is_filled None e new want room filled text step = step
 is_filled (Some fault) e new want room filled text step = absurd (cc step.0)
+
+-- a packet of a claimed number has a plain frame alone
+ping_alone : (g : Seen) → Among g (Plain true ∷ []) → is_plain g ≡ false → ⊥
+ping_alone g (inl is) unplain = true≢false (sym (ap is_plain is) ∙ unplain)
+ping_alone g (inr none) unplain = none
 
 -- a call by which the number of texts grew made a packet, by `make_packet`, `make_ack` or `fill`, or claimed a number
 its_packet : (e e2 : End) (call : Call) (answer : Answer call) → EndStep e call answer e2 → settle e ≡ e → (texts : List (List ℕ)) (text : List ℕ) → slice_get (texts ++ flat_map sent_in (effects_of call answer)) (length texts) ≡ Some text → Makes e e2 text
@@ -188,6 +195,7 @@ its_packet e e2 Claim (Ok number) step settled texts text is =
         made = claimed ∙ ap (λ (y : End). record y { next = e.next + 1 }) (sym settled);
         names = λ g at none. absurd none;
         reads = λ g none. absurd none;
+        back = λ g among unplain. absurd (ping_alone g (subst (Among g) (ap frames_in (sym (the_last texts ping_text text is)) ∙ ping_seen) among) unplain);
       }
     ]
 its_packet e e2 (Make first delay room) (r, t) step settled texts text is = absurd (none_there texts text is)
@@ -201,7 +209,7 @@ any_among f [] among asks = absurd among
 any_among f (g ∷ fs) (inl is) asks = or_left _ _ (ap asks_ack (sym is) ∙ asks)
 any_among f (g ∷ fs) (inr later) asks = or_right (asks_ack g) _ (any_among f fs later asks)
 
-other_twice : (s : Side) → other (other s) ≡ s
+pub other_twice : (s : Side) → other (other s) ≡ s
 other_twice s = grind (arith, nat_tests)
 
 -- In a run
@@ -257,6 +265,7 @@ module _ (a b : Settings) where
                 fine = fine;
                 took = took;
                 acks = λ g among is. covers g (it.reads g among) (no_plain g is);
+                only = λ g among unplain. elim (differ_covers bytes sent differ g among) [ inl there ↦ it.back g there unplain | inr plain ↦ absurd (true≢false (sym plain ∙ unplain)) ];
                 asks = λ p here.
                     let (ps, there, in_ps) = subst (λ (y : End). IsIn y.outstanding e.next p) same here in
                     stood_asks mid.log e.next p sent bytes is ((ok_mid.ends s).packets.records e.next ps p there in_ps) covers;

@@ -1,6 +1,6 @@
 -- Trusted.
--- All that is written is read in time, and a number of windows bounds how many rounds that takes. The whole file is ours, but that a clause
--- names its section of RFC 9000.
+-- All that is written is read in time, and rest comes, and a number of windows bounds how many rounds that takes. The whole file is ours, but
+-- that a clause names its section of RFC 9000.
 use Rattle.std.specs.Prelude.{◌≡◌, ℕ, suc, ◌+◌, ◌-◌, ◌*◌, ◌/◌, ◌≤◌, Bool, false, List, Option, None, Some}
 use Rattle.std.specs.List.{range_with_len, sum_by}
 use Rattle.qs_recv.specs.Lane.{RecvLane, step}
@@ -17,7 +17,7 @@ use Rattle.qs_runs.specs.Worlds.{end_of}
 use Rattle.qs_rest.specs.Resting.{HasRoom}
 use Rattle.qs_progress.specs.Laps.{Moment}
 use Rattle.qs_progress.specs.Rounds.{Round}
-use Rattle.qs_progress.specs.Comes.{Course, steps_in, stretches_in, IsReached, BothOpen}
+use Rattle.qs_progress.specs.Comes.{Course, steps_in, stretches_in, IsReached, BothOpen, BothRest, IsComplete}
 
 -- how wide an end's windows are at least, each less its step: that of the connection, and that of each stream
 pub record Widths : Type 0 where
@@ -57,14 +57,25 @@ filled k old new =
     (all_sent new - all_sent old) / suc k.conn
     + sum_by (λ n. (sent_on new n - sent_on old n) / suc (k.streams n)) (range_with_len 0 (4 * senders new))
 
+-- In every run, from each moment on, as long as neither end closes, and each sent fewer than 2^62 - 1 bytes: so many rounds at most begin
+-- where this doesn't hold, two for each width that is filled, so many for each stretch, and as many.
+abbrev pub ComesByWindows : ℕ → (Moment → Type 0) → Type 0
+ComesByWindows each P =
+    (a b : Settings) (k : Side → Widths) (parts : List Bool) (old new : Moment) → IsReached a b old → Course (WideRound k) P parts old new →
+    BothOpen new.ends → ((s : Side) → HasRoom new.ends s) →
+    steps_in parts ≤ 2 * (filled (k B) old.ends.a new.ends.a + filled (k A) old.ends.b new.ends.b) + each * stretches_in parts + each
+
 -- all that was written was read, but on streams that were broken off or stopped
 abbrev pub IsAllRead : Moment → Type 0
 IsAllRead m = (s : Side) (n : ℕ) → broken_off s n m.log ≡ false → stopped (other s) n m.log ≡ false → read (other s) n m.log ≡ written s n m.log
 
--- ALL IS READ. In every run, from each moment on, as long as neither end closes, and each sent fewer than 2^62 - 1 bytes: so many rounds at
--- most begin before all that was written was read, two for each width that is filled, and three for each stretch, and three.
+-- ALL IS READ: three for each stretch.
 abbrev pub AllIsReadInRounds : Type 0
-AllIsReadInRounds =
-    (a b : Settings) (k : Side → Widths) (parts : List Bool) (old new : Moment) → IsReached a b old → Course (WideRound k) IsAllRead parts old new →
-    BothOpen new.ends → ((s : Side) → HasRoom new.ends s) →
-    steps_in parts ≤ 2 * (filled (k B) old.ends.a new.ends.a + filled (k A) old.ends.b new.ends.b) + 3 * stretches_in parts + 3
+AllIsReadInRounds = ComesByWindows 3 IsAllRead
+
+-- REST COMES, and with it all that holds at rest: five for each stretch.
+abbrev pub RestComesInRounds : Type 0
+RestComesInRounds = ComesByWindows 5 (λ m. BothRest m.ends)
+
+abbrev pub AllComesInRounds : Type 0
+AllComesInRounds = ComesByWindows 5 (λ m. IsComplete m.log m.ends)

@@ -1,7 +1,6 @@
 -- Of laws.
 -- No packet holds an item whose value is above the present one, and none such was acknowledged (RFC 9000, sections 4.1, 4.6 and 13.3).
 use Rattle.std.specs.Prelude.{◌≡◌, ◌≤◌, Bool, ◌⊎◌, Some}
-use Rattle.qs_wire.specs.declared.stream_id.Dir.TheVariants.{Bidi, Uni}
 use Rattle.qs_recv.specs.Lane.{RecvLane}
 use Rattle.qs_send.specs.Lane.{SendLane}
 use Rattle.qs_send.specs.Records.{IsCarried}

@@ -6,8 +6,8 @@ ghost use Rattle.qs_progress.specs.Acknowledged.{AcknowledgedGoesByValue, AcksTe
 ghost use Rattle.qs_progress.specs.Bound.{DoneIsBounded};
 ghost use Rattle.qs_progress.specs.Outstanding.{WhatIsOutStays};
 ghost use Rattle.qs_progress.specs.Going.{WhatGoesOutIsNew};
-ghost use Rattle.qs_progress.specs.Comes.{RestComes, AllComes, RestComesInRounds, AllComesInRounds};
-ghost use Rattle.qs_progress.specs.Windows.{AllIsReadInRounds};
+ghost use Rattle.qs_progress.specs.Comes.{RestComes, AllComes};
+ghost use Rattle.qs_progress.specs.Windows.{AllIsReadInRounds, RestComesInRounds, AllComesInRounds};
 ghost use Rattle.qs_progress.specs.Ending.{CallsComeToAnEnd, RoomyPacketsCarry};
 ghost use Rattle.qs_progress.specs.Exclusions.{Exclusions};
 ghost use Rattle.qs_progress.specs.ExclusionsLaps.{LapExclusions};
@@ -66,7 +66,7 @@ pub fn all_comes()
     ensures { AllComes }
 {}
 
-/// By rounds, too: one for each thing that can be done for good, one for each stretch, and one.
+/// By rounds, too: two for each width of a window that is filled, five for each stretch, and five.
 pub fn rest_comes_in_rounds()
     ensures { RestComesInRounds }
 {}
