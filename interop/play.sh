@@ -203,6 +203,26 @@ has_status() {
   timeout 20 kdig +quic +timeout=8 +retry=0 "@${address%:*}" -p "${address##*:}" "$@" | tee /dev/stderr | grep -qF "status: $wanted"
 }
 
+# An endpoint by the rules of quic-interop-runner, without its container: ROLE, TESTCASE and REQUESTS come behind it.
+# shellcheck disable=SC2034
+as_runner=(env "PATH=$built:$PATH" "CERTS=$room/certs" "WWW=$room/files" "DOWNLOADS=$room/loaded" LISTEN=127.0.0.1:0)
+
+# What that gives a server: a certificate, and its key as `openssl ecparam` writes it.
+make_certificate() {
+  mkdir "$room/certs"
+  openssl ecparam -name prime256v1 -genkey -out "$room/certs/priv.key"
+  openssl req -x509 -key "$room/certs/priv.key" -subj /CN=localhost -days 30 -out "$room/certs/cert.pem" 2>/dev/null
+}
+
+# Loads files by our client in its role.
+endpoint_loads() {
+  local case=$1 names=$2 name requests=''
+  for name in $names; do
+    requests+="https://$address/$name "
+  done
+  loads "$names" timeout 120 "${as_runner[@]}" ROLE=client "TESTCASE=$case" "REQUESTS=$requests" interop/runner/run_endpoint.sh
+}
+
 # gtlsclient's addresses and options, for the server that was started last.
 gtls_loads() {
   local names=$1 name urls=()

@@ -96,9 +96,8 @@ impl Requests {
         poll(server);
         poll(client);
         // Sends MAX_STREAMS, so that the peer may open one more.
-        if server.is_sendable()
-            && let Some(token) = fill_and_take(server, client)
-        {
+        let is_sendable = server.is_sendable();
+        if let Some(token) = is_sendable.then(|| fill_and_take(server, client)).flatten() {
             server.acked(token).expect("it was given");
         }
         black_box(client.is_sendable());

@@ -178,13 +178,13 @@ impl Iterator for Names {
         loop {
             let entry = self.entries.next()?.ok()?;
             let name = entry.file_name().to_bytes();
-            let path = self.path.join(OsStr::from_bytes(name));
             let is_folder = match entry.file_type() {
                 _ if name.starts_with(b".") => None,
                 Some(Type::Directory) => Some(true),
                 Some(Type::File) => Some(false),
                 // (where a link leads to)
                 Some(Type::Symlink) | None => {
+                    let path = self.path.join(OsStr::from_bytes(name));
                     let about = self.folder.within(&path, libc::O_PATH);
                     let about = about.and_then(|file| file.metadata()).ok();
                     let about = about.filter(|about| about.is_dir() || about.is_file());

@@ -27,9 +27,8 @@ impl Priorities {
             Some(priority) => self.of.insert(stream, priority),
             None => self.of.remove(&stream),
         };
-        if let Some(before) = before
-            && let Some(streams) = self.streams.get_mut(&before)
-        {
+        if let Some(before) = before {
+            let streams = self.streams.entry(before).or_default();
             streams.remove(&stream);
             if streams.is_empty() {
                 self.streams.remove(&before);

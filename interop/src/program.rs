@@ -6,7 +6,7 @@ use crate::connection::{ClientSetup, Config, Connection};
 use crate::fault::Outcome;
 use crate::log::{flush, say, tell};
 use crate::packet::VERSION_1;
-use crate::tls::client_config;
+use crate::tls::{client_config, take_only};
 use gotsavena::{Settings, Tuning};
 use std::collections::BTreeMap;
 use std::fmt::Display;
@@ -60,9 +60,10 @@ pub fn tell_more(line: &str) {
 }
 
 /// Runs a program: `usage` begins with its name, has all of its options, and is told where its words make no sense. Every program knows
-/// `--qlog`, `--verbose`, `--help` and `--version`.
+/// `--qlog`, `--cipher`, `--verbose`, `--help` and `--version`.
 pub fn run(usage: &str, main: impl FnOnce(Words) -> Result<(), Refusal>) -> ExitCode {
-    let usage = format!("{usage} [--qlog FOLDER] [--verbose] [--help] [--version]");
+    let usage =
+        format!("{usage} [--qlog FOLDER] [--cipher SUITE] [--verbose] [--help] [--version]");
     let answer = |words: Words| {
         if words.asks_for_help {
             println!("usage: {usage}");
@@ -132,6 +133,9 @@ fn words(mut given: impl Iterator<Item = String>, usage: &str) -> Result<Words, 
     if let Some(folder) = words.options.remove("qlog") {
         let refused = |error| Refusal::Failure(format!("{folder} can't be written into: {error}"));
         crate::qlog::write_into(&folder).map_err(refused)?;
+    }
+    if let Some(name) = words.options.remove("cipher") {
+        take_only(&name)?;
     }
     Ok(words)
 }

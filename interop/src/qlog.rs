@@ -105,9 +105,11 @@ impl Trace {
 
     fn put(&mut self, text: &str) {
         let record = format!("\u{1e}{text}\n");
-        if let Some(file) = &mut self.file
-            && let Err(error) = file.write_all(record.as_bytes())
-        {
+        let written = self
+            .file
+            .as_mut()
+            .map(|file| file.write_all(record.as_bytes()));
+        if let Some(Err(error)) = written {
             tell(format_args!("a trace can't be written further: {error}"));
             self.file = None;
         }

@@ -35,10 +35,9 @@ impl Numbers {
         if place > 0 {
             self.join(place - 1);
         }
-        if self.ranges.len() > MOST
-            && let Some((_, highest)) = self.ranges.pop()
-        {
-            self.floor = highest + 1;
+        if self.ranges.len() > MOST {
+            let dropped = self.ranges.pop();
+            self.floor = dropped.map_or(self.floor, |(_, highest)| highest + 1);
         }
     }
 

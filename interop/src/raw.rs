@@ -1,4 +1,5 @@
-//! Files without HTTP: the bytes of a stream are a path, and the answer on the same stream is the file, or a reset.
+//! Files without HTTP: the bytes of a stream are a path, and the answer on the same stream is the file, or a reset. So it is by HTTP/0.9,
+//! whose path has words around it.
 
 use crate::fault::Close;
 use crate::files::{Folder, is_exhausted};
@@ -9,6 +10,8 @@ use std::collections::{BTreeMap, VecDeque};
 
 /// The name of the protocol: one of our own.
 pub const PROTOCOL: &[u8] = b"gotsavena-raw";
+/// HTTP/0.9 over streams, as those who test QUIC speak it: the path stands between `GET` and a line's end.
+pub const HQ: &[u8] = b"hq-interop";
 
 pub const NO_ERROR: u64 = 0;
 pub const INTERNAL_ERROR: u64 = 1;
@@ -58,7 +61,8 @@ impl Answer {
                 }
             }
             let path = String::from_utf8_lossy(path);
-            let body = folder.plain(&path).and_then(|found| {
+            let path = path.strip_prefix("GET ").map_or(&*path, str::trim_end);
+            let body = folder.plain(path).and_then(|found| {
                 let len = found.len;
                 found.body(0..len)
             });
@@ -111,6 +115,7 @@ impl Application for RawServer {
 }
 
 pub struct RawClient {
+    is_hq: bool,
     wanted: VecDeque<String>,
     running: BTreeMap<StreamId, (String, Vec<u8>)>,
     /// Each path with its file; without one where the server has none.
@@ -120,9 +125,18 @@ pub struct RawClient {
 impl RawClient {
     pub fn new(wanted: Vec<String>) -> RawClient {
         RawClient {
+            is_hq: false,
             wanted: wanted.into(),
             running: BTreeMap::new(),
             loaded: Vec::new(),
+        }
+    }
+
+    /// One that asks by HTTP/0.9.
+    pub fn of_hq(wanted: Vec<String>) -> RawClient {
+        RawClient {
+            is_hq: true,
+            ..RawClient::new(wanted)
         }
     }
 
@@ -134,7 +148,11 @@ impl RawClient {
                 Err(fault) => return Err(Close::new(INTERNAL_ERROR, &fault.to_string())),
             };
             // A path is short, and a new stream has room for it.
-            end.write(stream, path.as_bytes()).map_err(internal)?;
+            let request = match self.is_hq {
+                true => &format!("GET /{}\r\n", path.trim_start_matches('/')),
+                false => path,
+            };
+            end.write(stream, request.as_bytes()).map_err(internal)?;
             end.finish(stream).map_err(internal)?;
             if let Some(path) = self.wanted.pop_front() {
                 self.running.insert(stream, (path, Vec::new()));

@@ -28,8 +28,8 @@ pub const BATCH: usize = 64;
 
 const LEAST_FIRST_ID: usize = 8;
 
-/// How long the busy ones go on in a turn, before what came for the others is looked at.
-const TURN: Duration = Duration::from_millis(1);
+/// How long each part of a turn takes at most, but for the last connection of it: before others are looked at again.
+const PART: Duration = Duration::from_micros(500);
 
 /// A server that is asked to stop ends soon, whatever its clients do.
 const GRACE: Duration = Duration::from_millis(300);
@@ -72,10 +72,12 @@ struct Served<A> {
     peer: SocketAddr,
     application: A,
     was_told: bool,
+    /// How long it took when it went on last.
+    took: Duration,
 }
 
-/// Takes in what a socket has, each datagram with where it came from. Answers whether the system told that no one listens on the peer's
-/// port.
+/// Takes in what a socket has, for a while, each datagram with where it came from. Answers whether the system told that no one listens on
+/// the peer's port.
 pub fn receive_batch(
     socket: &Socket,
     buffer: &mut [u8],
@@ -83,7 +85,8 @@ pub fn receive_batch(
 ) -> bool {
     let mut is_refused = false;
     let mut count = 0;
-    while count < BATCH {
+    let begin = Instant::now();
+    while count < BATCH && begin.elapsed() < PART {
         match socket.receive(buffer) {
             Ok((len, size, from)) => {
                 for datagram in buffer[..len].chunks_mut(size) {
@@ -102,7 +105,7 @@ pub fn receive_batch(
     is_refused
 }
 
-/// Returns whether there is more: then it has another turn behind the others. A datagram that the system doesn't take is lost as any
+/// Answers whether there is more: then it has another turn behind the others. A datagram that the system doesn't take is lost as any
 /// other.
 pub fn turn<A: Application>(
     connection: &mut Connection,
@@ -111,16 +114,15 @@ pub fn turn<A: Application>(
     mut transmit: impl FnMut(&[u8], usize, Path) -> io::Result<()>,
 ) -> bool {
     let now = Instant::now();
-    if let Some(end) = connection.end()
-        && let Err(close) = application.progress(end)
-    {
+    let end = connection.end();
+    if let Err(close) = end.map_or(Ok(()), |end| application.progress(end)) {
         connection.close(close, now);
     }
     application.prioritize(connection.priorities());
     let mut more = true;
     for _ in 0..BATCH {
         let Some(to) = connection.send(&mut out.datagram, now) else {
-            more = false;
+            more = connection.end().is_some() && application.was_cut();
             break;
         };
         if let Some(size) = out.push(to, &mut transmit) {
@@ -302,40 +304,49 @@ impl<A: Application> Server<A> {
         }
     }
 
-    // Waits until something comes, or until a time. Lets the connections go on that are concerned, or whose time is up, and then, for a
-    // while, those that are busy: who asks for little doesn't wait for who asks for much.
+    // Waits until something comes, or until a time. Lets the connections go on for which something came, or whose time is up.
     fn turn(&mut self, until: Option<Instant>, out: &mut Outbox) -> io::Result<()> {
         let socket = self.socket.clone();
-        let mut concerned = BTreeSet::new();
+        let mut woken = BTreeSet::new();
         socket.wait(until, self.wake)?;
         let begin = processor_time();
         let mut buffer = std::mem::take(&mut self.buffer);
         // Where a client's socket is gone its silence tells.
         _ = receive_batch(&socket, &mut buffer, |datagram, from| {
-            concerned.extend(self.take(datagram, from, out));
+            woken.extend(self.take(datagram, from, out));
         });
         self.buffer = buffer;
-        concerned.extend(self.timers_are_up());
-        let was_busy: BTreeSet<u64> = self.busy.iter().copied().collect();
-        for key in concerned.difference(&was_busy) {
-            if self.go_on(*key, out) {
-                self.busy.push_back(*key);
-            }
-        }
-        let since = Instant::now();
-        for _ in 0..was_busy.len() {
-            let Some(key) = self.busy.pop_front() else {
+        woken.extend(self.timers_are_up());
+        self.wake_up(woken, out);
+        self.longest = self.longest.max(processor_time().saturating_sub(begin));
+        Ok(())
+    }
+
+    // Who took little before goes first, so that it doesn't wait for who asks for much. Those that are busy have their while, too.
+    fn wake_up(&mut self, mut woken: BTreeSet<u64>, out: &mut Outbox) {
+        self.busy.iter().for_each(|key| _ = woken.remove(key));
+        let mut woken = Vec::from_iter(woken);
+        woken.sort_by_cached_key(|key| self.served.get(*key).map(|served| served.took));
+        let busy = std::mem::take(&mut self.busy);
+        let woken = self.go_through(woken.into(), out);
+        let mut left = self.go_through(busy, out);
+        left.extend(woken);
+        left.append(&mut self.busy);
+        self.busy = left;
+    }
+
+    // Lets connections go on for a while; those with more to do are busy. Answers the rest of them.
+    fn go_through(&mut self, mut queue: VecDeque<u64>, out: &mut Outbox) -> VecDeque<u64> {
+        let begin = Instant::now();
+        while begin.elapsed() < PART {
+            let Some(key) = queue.pop_front() else {
                 break;
             };
             if self.go_on(key, out) {
                 self.busy.push_back(key);
             }
-            if since.elapsed() >= TURN {
-                break;
-            }
         }
-        self.longest = self.longest.max(processor_time().saturating_sub(begin));
-        Ok(())
+        queue
     }
 
     fn timers_are_up(&mut self) -> Vec<u64> {
@@ -412,6 +423,7 @@ impl<A: Application> Server<A> {
             peer,
             application,
             was_told: false,
+            took: Duration::ZERO,
         };
         self.served.insert(key, served);
         Some(key)
@@ -421,7 +433,9 @@ impl<A: Application> Server<A> {
         let Some(served) = self.served.get(key) else {
             return false;
         };
+        let now = Instant::now();
         let went = served.apart(|served| served.go_on(self.phase, &self.socket, out));
+        served.took = now.elapsed();
         // (what is closed has that to tell)
         let more = went.unwrap_or(true);
         let connection = &mut served.connection;
@@ -452,10 +466,11 @@ mod tests {
     use crate::raw::{PROTOCOL, RawClient, RawServer};
     use crate::tls::server_config;
     use gotsavena::{Endpoint, Settings, Tuning};
-    use std::cell::Cell;
+    use std::cell::{Cell, RefCell};
 
     const IDLE: usize = 30;
     const FILES: usize = 50;
+    const SLOW: usize = 5;
 
     struct Nothing;
 
@@ -594,6 +609,50 @@ mod tests {
             said[0].ends_with(" the server has a fault: of the test"),
             "{said:?}"
         );
+    }
+
+    // Tells its number as it goes on. The slow ones take longer than a turn has for them.
+    struct Told(usize, Rc<RefCell<Vec<usize>>>);
+
+    impl Application for Told {
+        const NO_ERROR: u64 = 0;
+
+        fn progress(&mut self, _end: &mut Endpoint) -> Result<(), Close> {
+            if self.0 < SLOW {
+                std::thread::sleep(2 * PART);
+            }
+            self.1.borrow_mut().push(self.0);
+            Ok(())
+        }
+    }
+
+    #[test]
+    fn who_takes_little_waits_for_none_that_takes_much() {
+        let told = Rc::new(RefCell::new(Vec::new()));
+        let (made, of_all) = (Cell::new(0), told.clone());
+        let mut world = World::of(move |_| Told(made.replace(made.get() + 1), of_all.clone()));
+        let mut clients = [(); SLOW + 1].map(|()| world.client(Nothing));
+        // (their handshakes are over at both ends)
+        for _ in 0..20 {
+            clients.iter_mut().for_each(|client| world.step(client));
+        }
+        world.server.busy.clear();
+        let mut woken: BTreeSet<u64> = (0..=SLOW as u64).collect();
+        let mut slow = Vec::new();
+        while slow.len() < SLOW {
+            told.take();
+            world
+                .server
+                .wake_up(std::mem::take(&mut woken), &mut Outbox::default());
+            let went = told.take();
+            assert_eq!(went[0], SLOW);
+            assert!(went.len() <= 3, "{went:?}");
+            slow.extend_from_slice(&went[1..]);
+            assert_eq!(world.server.busy.len(), SLOW - slow.len());
+            woken.insert(SLOW as u64);
+        }
+        slow.sort();
+        assert_eq!(slow, Vec::from_iter(0..SLOW));
     }
 
     #[test]

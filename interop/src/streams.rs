@@ -20,6 +20,11 @@ pub trait Application {
         false
     }
 
+    /// Whether it had more to write, and let others have their turn.
+    fn was_cut(&self) -> bool {
+        false
+    }
+
     /// Tells how soon streams go, where it isn't by turns.
     fn prioritize(&self, _priorities: &mut Priorities) {}
 
@@ -133,6 +138,11 @@ impl Body {
 
     pub fn is_over(&self) -> bool {
         self.left == 0
+    }
+
+    /// Its pieces are made as they go, which takes longer than to read them.
+    pub fn is_made(&self) -> bool {
+        matches!(self.source, Source::Pieces(_))
     }
 }
 

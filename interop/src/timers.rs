@@ -27,9 +27,7 @@ impl Timers {
 
     pub fn take_due(&mut self, now: Instant) -> Vec<u64> {
         let mut due = Vec::new();
-        while let Some(time) = self.next()
-            && time <= now
-        {
+        while self.next().is_some_and(|time| time <= now) {
             due.extend(self.by_time.pop_first().map(|(_, key)| key));
         }
         for key in &due {

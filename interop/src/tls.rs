@@ -6,22 +6,44 @@ use crate::program::Refusal;
 use rustls::client::{ServerCertVerified, ServerCertVerifier};
 use rustls::quic::{ClientQuicExt, KeyChange, QuicExt, ServerQuicExt, Version};
 use rustls::{
-    Certificate, ClientConfig, ClientConnection, Connection, Error, KeyLogFile, PrivateKey,
-    ServerConfig, ServerConnection, ServerName,
+    ALL_CIPHER_SUITES, Certificate, ClientConfig, ClientConnection, Connection, Error, KeyLogFile,
+    PrivateKey, ServerConfig, ServerConnection, ServerName, SupportedCipherSuite,
 };
-use std::sync::Arc;
+use std::sync::{Arc, OnceLock};
 use std::time::SystemTime;
+
+static ONLY: OnceLock<SupportedCipherSuite> = OnceLock::new();
+
+/// From now on this suite is offered and taken alone, by the name that rustls has for it.
+pub fn take_only(name: &str) -> Result<(), Refusal> {
+    let is_named = |suite: &&SupportedCipherSuite| format!("{:?}", suite.suite()) == name;
+    let unknown = || Refusal::Usage(format!("--cipher {name} is none that is known"));
+    let suite = ALL_CIPHER_SUITES
+        .iter()
+        .find(is_named)
+        .ok_or_else(unknown)?;
+    ONLY.get_or_init(|| *suite);
+    Ok(())
+}
+
+fn suites() -> &'static [SupportedCipherSuite] {
+    ONLY.get().map_or(ALL_CIPHER_SUITES, std::slice::from_ref)
+}
 
 pub fn server_config(
     identity: Identity,
     protocols: &[&[u8]],
 ) -> Result<Arc<ServerConfig>, Refusal> {
     let certificates = identity.certificates.into_iter().map(Certificate);
+    let wrong = |error| Refusal::Failure(format!("the certificate or its key: {error}"));
     let mut config = ServerConfig::builder()
-        .with_safe_defaults()
+        .with_cipher_suites(suites())
+        .with_safe_default_kx_groups()
+        .with_safe_default_protocol_versions()
+        .map_err(wrong)?
         .with_no_client_auth()
         .with_single_cert(certificates.collect(), PrivateKey(identity.key))
-        .map_err(|error| Refusal::Failure(format!("the certificate or its key: {error}")))?;
+        .map_err(wrong)?;
     config.alpn_protocols = protocols.iter().map(|name| name.to_vec()).collect();
     config.key_log = Arc::new(KeyLogFile::new());
     Ok(Arc::new(config))
@@ -30,7 +52,10 @@ pub fn server_config(
 /// What TLS needs of a client. It takes every certificate: it is meant for the loopback alone.
 pub fn client_config(protocols: &[&[u8]]) -> Arc<ClientConfig> {
     let mut config = ClientConfig::builder()
-        .with_safe_defaults()
+        .with_cipher_suites(suites())
+        .with_safe_default_kx_groups()
+        .with_safe_default_protocol_versions()
+        .expect("each suite is one of TLS 1.3")
         .with_custom_certificate_verifier(Arc::new(AnyCertificate))
         .with_no_client_auth();
     config.alpn_protocols = protocols.iter().map(|name| name.to_vec()).collect();

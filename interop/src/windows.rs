@@ -106,9 +106,10 @@ impl Windows {
                 self.streams.remove(&stream);
                 continue;
             };
-            if let Some(window) = self.streams.get_mut(&stream)
-                && window.grows(read, self.most, round_trip, now)
-            {
+            let Some(window) = self.streams.get_mut(&stream) else {
+                continue;
+            };
+            if window.grows(read, self.most, round_trip, now) {
                 _ = end.set_stream_window(stream, window.size);
                 self.conn.size = self.conn.size.max(2 * window.size);
             }

@@ -303,10 +303,11 @@ impl Identifiers {
     }
 
     fn took(&mut self, frame: &Frame<'_>) {
-        if let Frame::NewConnectionId { sequence, .. } = *frame
-            && !self.given.contains(&sequence)
-        {
-            self.given.push(sequence);
+        match *frame {
+            Frame::NewConnectionId { sequence, .. } if !self.given.contains(&sequence) => {
+                self.given.push(sequence);
+            }
+            _ => {}
         }
     }
 
@@ -398,11 +399,12 @@ fn read_all(end: &mut Endpoint) {
 
 // What it sent on its own streams it wrote there.
 fn write(end: &mut Endpoint, role: Role, frame: &Frame<'_>) {
-    if let Frame::Stream { stream, bytes, .. } = *frame
-        && stream.initiator() == role
-    {
-        open(end, role, stream);
-        _ = end.write(stream, bytes);
+    match *frame {
+        Frame::Stream { stream, bytes, .. } if stream.initiator() == role => {
+            open(end, role, stream);
+            _ = end.write(stream, bytes);
+        }
+        _ => {}
     }
 }
 

@@ -101,9 +101,10 @@ impl Server {
     /// Ends the one that was begun for this time, if it goes on, and begins another. Where that isn't reached each handshake fails.
     pub fn begin_anew(&self, times: usize) {
         let mut begun = self.begun.lock().expect("no thread panics with it");
-        if begun.times == times
-            && let Ok(new) = Begun::new(&self.command, &self.way, times + 1)
-        {
+        if begun.times != times {
+            return;
+        }
+        if let Ok(new) = Begun::new(&self.command, &self.way, times + 1) {
             *begun = new;
         }
     }

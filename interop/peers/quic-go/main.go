@@ -2,8 +2,9 @@
 //
 //	quic-go-peer server DIR ADDR CERTIFICATE.pem KEY.pem
 //	quic-go-peer client ADDR DIR PATH..
+//	quic-go-peer hq-client ADDR DIR PATH..
 //
-// And over HTTP/3, by its package http3:
+// The last asks by HTTP/0.9 (ALPN hq-interop), which the server knows, too. And over HTTP/3, by its package http3:
 //
 //	quic-go-peer h3-server DIR ADDR CERTIFICATE.pem KEY.pem
 //	quic-go-peer h3-client ADDR DIR N PATH
@@ -36,6 +37,7 @@ import (
 
 const (
 	protocol = "gotsavena-raw"
+	hq       = "hq-interop"
 	noFile   = 2
 	mostPath = 4096
 	// H3_REQUEST_CANCELLED (RFC 9114, section 8.1).
@@ -56,7 +58,9 @@ func run(words []string) error {
 	case len(words) == 5 && words[0] == "server":
 		return serve(words[1], words[2], words[3], words[4])
 	case len(words) >= 4 && words[0] == "client":
-		return load(words[1], words[2], words[3:])
+		return load(protocol, words[1], words[2], words[3:])
+	case len(words) >= 4 && words[0] == "hq-client":
+		return load(hq, words[1], words[2], words[3:])
 	case len(words) == 5 && words[0] == "h3-server":
 		return serveHTTP(words[1], words[2], words[3], words[4])
 	case len(words) == 5 && words[0] == "h3-client":
@@ -78,7 +82,7 @@ func run(words []string) error {
 		}
 		return loadAndBreakOff(words[1], words[2], count, words[4:])
 	}
-	return errors.New("server or h3-server DIR ADDR CERTIFICATE KEY, client ADDR DIR PATH.., h3-client or h3-times ADDR DIR N PATH, or h3-resets ADDR DIR N PATH..")
+	return errors.New("server or h3-server DIR ADDR CERTIFICATE KEY, client or hq-client ADDR DIR PATH.., h3-client or h3-times ADDR DIR N PATH, or h3-resets ADDR DIR N PATH..")
 }
 
 func serve(folder, address, certificate, key string) error {
@@ -86,7 +90,7 @@ func serve(folder, address, certificate, key string) error {
 	if err != nil {
 		return err
 	}
-	config := &tls.Config{Certificates: []tls.Certificate{pair}, NextProtos: []string{protocol}}
+	config := &tls.Config{Certificates: []tls.Certificate{pair}, NextProtos: []string{protocol, hq}}
 	listener, err := quic.ListenAddr(address, config, nil)
 	if err != nil {
 		return err
@@ -116,7 +120,8 @@ func serveStream(folder string, stream quic.Stream) {
 	if err != nil {
 		return
 	}
-	bytes, err := os.ReadFile(filepath.Join(folder, filepath.Clean("/"+string(path))))
+	name := strings.TrimSpace(strings.TrimPrefix(string(path), "GET "))
+	bytes, err := os.ReadFile(filepath.Join(folder, filepath.Clean("/"+name)))
 	if err != nil {
 		stream.CancelWrite(noFile)
 		return
@@ -127,8 +132,8 @@ func serveStream(folder string, stream quic.Stream) {
 	}
 }
 
-func load(address, folder string, paths []string) error {
-	config := &tls.Config{InsecureSkipVerify: true, NextProtos: []string{protocol}}
+func load(name, address, folder string, paths []string) error {
+	config := &tls.Config{InsecureSkipVerify: true, NextProtos: []string{name}}
 	begin := time.Now()
 	connection, err := quic.DialAddr(address, config, nil)
 	if err != nil {
@@ -141,7 +146,7 @@ func load(address, folder string, paths []string) error {
 	came := make(chan loaded, len(paths))
 	for _, path := range paths {
 		go func(path string) {
-			count, err := loadOne(connection, folder, path)
+			count, err := loadOne(connection, name, folder, path)
 			came <- loaded{count, err}
 		}(path)
 	}
@@ -158,12 +163,16 @@ func load(address, folder string, paths []string) error {
 	return connection.CloseWithError(0, "")
 }
 
-func loadOne(connection quic.Connection, folder, path string) (int, error) {
+func loadOne(connection quic.Connection, protocol, folder, path string) (int, error) {
 	stream, err := connection.OpenStreamSync(context.Background())
 	if err != nil {
 		return 0, err
 	}
-	if _, err := stream.Write([]byte(path)); err != nil {
+	request := path
+	if protocol == hq {
+		request = "GET /" + path + "\r\n"
+	}
+	if _, err := stream.Write([]byte(request)); err != nil {
 		return 0, err
 	}
 	if err := stream.Close(); err != nil {

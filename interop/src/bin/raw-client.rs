@@ -1,17 +1,17 @@
 //! A client of files without HTTP: loads each path into a folder, under the path's last part. With `--connections N` it opens N connections
-//! before, and closes them once all stand.
+//! before, and closes them once all stand. With `--protocol hq-interop` it asks by HTTP/0.9.
 
 use gotsavena_interop::client::{connect_often, visit};
 use gotsavena_interop::program::{
     self, Refusal, Words, addresses, client, config, expect_close, save,
 };
-use gotsavena_interop::raw::{NO_ERROR, PROTOCOL, RawClient};
+use gotsavena_interop::raw::{HQ, NO_ERROR, PROTOCOL, RawClient};
 use std::process::ExitCode;
 use std::time::Instant;
 
 fn main() -> ExitCode {
     program::run(
-        "raw-client [--connections N] [--window BYTES] [--stream-window BYTES] [--most-window BYTES] [--streams N] [--lifetime N] [--idle SECONDS] [--quic-version HEX] ADDR DIR PATH..",
+        "raw-client [--protocol hq-interop] [--connections N] [--window BYTES] [--stream-window BYTES] [--most-window BYTES] [--streams N] [--lifetime N] [--idle SECONDS] [--quic-version HEX] ADDR DIR PATH..",
         load,
     )
 }
@@ -19,6 +19,7 @@ fn main() -> ExitCode {
 fn load(mut words: Words) -> Result<(), Refusal> {
     let config = config(&mut words)?;
     let version = words.quic_version()?;
+    let protocol = words.option("protocol");
     let connections = words.number("connections", 0)? as usize;
     let [server, folder, paths @ ..] = words.rest.as_slice() else {
         return Err(Refusal::Usage(
@@ -29,8 +30,15 @@ fn load(mut words: Words) -> Result<(), Refusal> {
         return Err(Refusal::Usage("a path is expected".to_owned()));
     }
     let begin = Instant::now();
-    let mut loader = RawClient::new(paths.to_vec());
-    let make = || client(PROTOCOL, "localhost", version, config);
+    let (name, mut loader) = match protocol.as_deref() {
+        None => (PROTOCOL, RawClient::new(paths.to_vec())),
+        Some("hq-interop") => (HQ, RawClient::of_hq(paths.to_vec())),
+        Some(other) => {
+            let reason = format!("--protocol {other} is none that is known: hq-interop");
+            return Err(Refusal::Usage(reason));
+        }
+    };
+    let make = || client(name, "localhost", version, config);
     let server = addresses(server)?;
     connect_often(server[0], make, connections)?;
     let outcome = visit(&server, make, &mut loader)?;

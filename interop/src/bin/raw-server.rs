@@ -1,8 +1,8 @@
-//! A server of files without HTTP: the bytes of a stream are a path, the answer is the file.
+//! A server of files without HTTP: the bytes of a stream are a path, the answer is the file; or by HTTP/0.9 (ALPN hq-interop).
 
 use gotsavena_interop::files::Folder;
 use gotsavena_interop::program::{self, Refusal, Words, config, listen, raise_file_limit, serving};
-use gotsavena_interop::raw::{PROTOCOL, RawServer};
+use gotsavena_interop::raw::{HQ, PROTOCOL, RawServer};
 use gotsavena_interop::server::Server;
 use gotsavena_interop::stop::Stop;
 use gotsavena_interop::tls::server_config;
@@ -22,7 +22,7 @@ fn serve(mut words: Words) -> Result<(), Refusal> {
     let [root, address] = words.exactly()?;
     let folder = Folder::open(&root)
         .map_err(|error| Refusal::Failure(format!("{root} can't be opened: {error}")))?;
-    let tls = server_config(identity, &[PROTOCOL])?;
+    let tls = server_config(identity, &[PROTOCOL, HQ])?;
     raise_file_limit();
     let socket = listen(&address)?;
     let stop = Stop::by_signals().map_err(Refusal::failure)?;

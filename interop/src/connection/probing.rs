@@ -56,10 +56,10 @@ impl Connection {
         while let Some(packet) = read_packet(&datagram[at..]) {
             let end = at + packet.end;
             let bytes = &mut datagram[at..end];
-            if packet.kind == Kind::Protected(Level::Data)
-                && let Some(keys) = &mut self.data_keys
-                && let Some(opened) = keys.open(bytes, &packet, self.expected)
-            {
+            let is_data = packet.kind == Kind::Protected(Level::Data);
+            let keys = self.data_keys.as_mut().filter(|_| is_data);
+            let opened = keys.and_then(|keys| keys.open(bytes, &packet, self.expected));
+            if let Some(opened) = opened {
                 self.expected = self.expected.max(opened.number + 1);
                 note(&mut self.heard, opened.number, &bytes[opened.payload]);
                 has_opened = true;

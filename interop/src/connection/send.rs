@@ -196,9 +196,8 @@ impl Connection {
         let draft = header.write(out);
         let probes = self.space(Level::Data).probes;
         let may_ask = self.recovery.allows(now);
-        if let (true, true, Some(size)) = (may_ask, probes == 0, self.recovery.path_probe())
-            && self.known.is_confirmed
-        {
+        let may_probe = may_ask && probes == 0 && self.known.is_confirmed;
+        if let (true, Some(size)) = (may_probe, self.recovery.path_probe()) {
             return self.probe_path(draft, size, out, now).map(Some);
         }
         if may_ask || probes > 0 {
@@ -338,9 +337,10 @@ impl Connection {
 
     fn own_frames(&mut self, room: usize) -> OwnFrames {
         let mut own = OwnFrames::default();
-        while own.payload.len() + LEAST_ROOM <= room
-            && let Some(control) = self.controls.pop_front()
-        {
+        while own.payload.len() + LEAST_ROOM <= room {
+            let Some(control) = self.controls.pop_front() else {
+                break;
+            };
             push_frame(&mut own.payload, &frame_of(&control));
             own.controls.push(control);
         }

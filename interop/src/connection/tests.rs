@@ -86,9 +86,10 @@ impl World {
     fn send(&mut self) {
         let mut out = Vec::new();
         for place in 0..2 {
-            while let Some(end) = &mut self.ends[place]
-                && let Some(to) = end.send(&mut out, self.now)
-            {
+            while let Some(end) = &mut self.ends[place] {
+                let Some(to) = end.send(&mut out, self.now) else {
+                    break;
+                };
                 // The client is at one address alone.
                 if place == 1 && to != self.from {
                     continue;

@@ -39,6 +39,8 @@ pub struct Answer {
     /// How long the body is, of HEAD too, where that is told.
     pub len: Option<u64>,
     pub body: Option<Body>,
+    /// A folder was read for it.
+    pub is_listing: bool,
 }
 
 #[derive(Debug, PartialEq, Eq)]
@@ -79,8 +81,7 @@ impl Request {
                 let to = format!("{to}{}", query.escape_ascii());
                 Ok(Answer::of("301", &[("location", &to)]))
             }
-            Ok(Named::Listing(listed, None)) => Ok(self.page("200", listing(&self.path, listed))),
-            Ok(Named::Listing(first, Some(rest))) => Ok(self.long_page(first, rest)),
+            Ok(Named::Listing(first, rest)) => Ok(self.listing(first, rest)),
             Err(error) => Err(error),
         };
         answered.unwrap_or_else(|error| match is_exhausted(&error) {
@@ -106,14 +107,21 @@ impl Request {
         answer
     }
 
-    // Its names go as they are read, so that a folder of many holds no one up.
-    fn long_page(&self, first: Vec<Listed>, rest: Names) -> Answer {
-        let mut answer = Answer::of("200", &[("content-type", HTML)]);
-        let [head, tail] = around(&self.path);
-        let names = first.into_iter().chain(rest).map(|listed| entry(&listed));
-        let pieces = once(head).chain(names).chain(once(tail));
-        answer.len = None;
-        answer.body = (self.method == b"GET").then(|| Body::of_pieces(pieces));
+    // Where there are many names they go as they are read, so that a folder of many holds no one up.
+    fn listing(&self, first: Vec<Listed>, rest: Option<Names>) -> Answer {
+        let mut answer = match rest {
+            None => self.page("200", listing(&self.path, first)),
+            Some(rest) => {
+                let mut answer = Answer::of("200", &[("content-type", HTML)]);
+                let [head, tail] = around(&self.path);
+                let names = first.into_iter().chain(rest).map(|listed| entry(&listed));
+                let pieces = once(head).chain(names).chain(once(tail));
+                answer.len = None;
+                answer.body = (self.method == b"GET").then(|| Body::of_pieces(pieces));
+                answer
+            }
+        };
+        answer.is_listing = true;
         answer
     }
 
@@ -209,6 +217,7 @@ impl Answer {
             fields: fields.collect(),
             len: Some(0),
             body: None,
+            is_listing: false,
         }
     }
 
@@ -285,10 +294,11 @@ fn around(path: &[u8]) -> [String; 2] {
 
 fn entry(Listed { name, is_folder }: &Listed) -> String {
     let slash = if *is_folder { "/" } else { "" };
-    let link = percent_encode(name, ESCAPED);
-    let name = String::from_utf8_lossy(name);
-    let name = encode_text(&name);
-    format!("\n<li><a href=\"./{link}{slash}\">{name}{slash}</a>")
+    let (link, text) = (percent_encode(name, ESCAPED), String::from_utf8_lossy(name));
+    let parts = ["\n<li><a href=\"./"].into_iter().chain(link);
+    parts
+        .chain([slash, "\">", &encode_text(&text), slash, "</a>"])
+        .collect()
 }
 
 fn listing(path: &[u8], listed: Vec<Listed>) -> String {

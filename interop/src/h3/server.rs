@@ -46,6 +46,7 @@ pub struct FileServer {
     away_at: Option<u64>,
     is_stopping: bool,
     malformed: BTreeSet<StreamId>,
+    has_listed: bool,
 }
 
 impl FileServer {
@@ -63,6 +64,7 @@ impl FileServer {
             away_at: None,
             is_stopping: false,
             malformed: BTreeSet::new(),
+            has_listed: false,
         }
     }
 
@@ -172,6 +174,7 @@ impl FileServer {
             return Ok(());
         };
         let mut answer = answer(&request);
+        self.has_listed = answer.is_listing;
         let lens = self.answered.values().map(Entry::body_len);
         if !self.share.set(most(lens.chain([answer.sent_len()]))) {
             answer = request.unavailable("too much is kept of answers");
@@ -240,6 +243,11 @@ impl Application for FileServer {
         priorities.forget(is_over);
     }
 
+    fn was_cut(&self) -> bool {
+        let session = self.session.as_ref();
+        self.has_listed || session.is_some_and(|session| session.was_cut)
+    }
+
     fn stop(&mut self) -> Result<bool, Close> {
         let Some(session) = &mut self.session else {
             return Ok(true);
@@ -258,8 +266,13 @@ impl Application for FileServer {
             None => self.begin(end)?,
         };
         session.progress(end)?;
+        self.has_listed = false;
         while let Some(event) = session.next_event() {
             self.take(event, &mut session)?;
+            // (a folder was read, so others have their turn before the next one is)
+            if self.has_listed {
+                break;
+            }
         }
         self.lose_patience(&mut session, end)?;
         self.tell(end);

@@ -34,6 +34,9 @@ const TURN: usize = 1 << 16;
 /// How much may wait to be sent: more than goes at once.
 const MOST_UNSENT: u64 = 1 << 17;
 
+/// How many pieces are made, and not only read, before others have their turn.
+const MOST_MADE: usize = 2;
+
 /// As many as a call of the library gives at once.
 const PARTS: usize = 16;
 
@@ -54,6 +57,8 @@ struct Outgoing {
 struct Shared {
     events: VecDeque<Event>,
     bodies: HashMap<i64, Outgoing>,
+    /// How many pieces of them were made.
+    made: usize,
     failed: Vec<i64>,
     field_sizes: HashMap<i64, usize>,
     stops: Vec<(i64, u64)>,
@@ -70,6 +75,8 @@ pub struct Session {
     refused: BTreeSet<StreamId>,
     own: Vec<StreamId>,
     blocked: Vec<i64>,
+    /// There would have been more to write.
+    pub was_cut: bool,
 }
 
 extern "C" fn on_data(
@@ -197,11 +204,12 @@ impl Outgoing {
 
     fn drop_written(&mut self, count: usize) {
         self.written += count;
-        while let Some(first) = self.pieces.front()
-            && first.len() <= self.written
-        {
+        while let Some(first) = self.pieces.pop_front() {
+            if first.len() > self.written {
+                self.pieces.push_front(first);
+                break;
+            }
             self.written -= first.len();
-            self.pieces.pop_front();
         }
     }
 }
@@ -220,6 +228,7 @@ extern "C" fn read_data(
     let Some(outgoing) = shared.bodies.get_mut(&stream).filter(|_| count > 0) else {
         return ERR_WOULDBLOCK;
     };
+    shared.made += usize::from(outgoing.body.is_made());
     let Ok(piece) = outgoing.body.next_piece() else {
         shared.failed.push(stream);
         return ERR_WOULDBLOCK;
@@ -355,6 +364,7 @@ impl Session {
             refused: BTreeSet::new(),
             own: Vec::new(),
             blocked: Vec::new(),
+            was_cut: false,
         };
         check(error)?;
         session.bind(role, end)?;
@@ -585,15 +595,21 @@ impl Session {
     }
 
     pub fn write(&mut self, end: &mut Endpoint) -> Result<(), Close> {
+        self.was_cut = false;
         if self.is_full(end) {
             return Ok(());
         }
+        self.shared().made = 0;
         for stream in std::mem::take(&mut self.blocked) {
             // Sound: as above. A stream that is closed is unknown, which is no fault.
             unsafe { nghttp3_conn_unblock_stream(self.conn, stream) };
         }
         // (where no more is taken, no more of the files is read)
         while !self.is_full(end) {
+            if self.shared().made == MOST_MADE {
+                self.was_cut = true;
+                break;
+            }
             let (mut stream, mut fin) = (-1, 0);
             let mut parts = [Bytes {
                 base: ptr::null_mut(),

@@ -2,6 +2,7 @@
 //!
 //!     quinn-peer server DIR ADDR CERTIFICATE.der KEY.der
 //!     quinn-peer client ADDR DIR PATH..
+//!     quinn-peer hq-client ADDR DIR PATH..      the same by HTTP/0.9 (ALPN hq-interop), which the server knows, too
 //!     quinn-peer stops ADDR PATH     stops the stream of a file in the middle, and then loads that file whole
 //!     quinn-peer resets ADDR PATH    breaks requests off before they are whole, one with a stop, and then loads that file
 
@@ -16,6 +17,7 @@ use std::time::{Instant, SystemTime};
 type Fallible<T> = Result<T, Box<dyn Error + Send + Sync>>;
 
 const PROTOCOL: &[u8] = b"gotsavena-raw";
+const HQ: &[u8] = b"hq-interop";
 const NO_FILE: u32 = 2;
 const MOST_PATH: usize = 4096;
 const MOST_BYTES: usize = 1 << 30;
@@ -41,7 +43,10 @@ fn run(words: &[String]) -> Fallible<()> {
             runtime.block_on(serve(folder, address.parse()?, certificate, key))
         }
         ["client", address, folder, paths @ ..] => {
-            runtime.block_on(load(address.parse()?, folder, paths))
+            runtime.block_on(load(address.parse()?, PROTOCOL, folder, paths))
+        }
+        ["hq-client", address, folder, paths @ ..] => {
+            runtime.block_on(load(address.parse()?, HQ, folder, paths))
         }
         ["stops", address, path] => runtime.block_on(stop(address.parse()?, path)),
         ["resets", address, path] => runtime.block_on(reset(address.parse()?, path)),
@@ -56,7 +61,7 @@ async fn serve(folder: &str, address: SocketAddr, certificate: &str, key: &str) 
         .with_safe_defaults()
         .with_no_client_auth()
         .with_single_cert(vec![certificate], key)?;
-    tls.alpn_protocols = vec![PROTOCOL.to_vec()];
+    tls.alpn_protocols = vec![PROTOCOL.to_vec(), HQ.to_vec()];
     let endpoint = Endpoint::server(ServerConfig::with_crypto(Arc::new(tls)), address)?;
     println!("listening on {}", endpoint.local_addr()?);
     while let Some(connecting) = endpoint.accept().await {
@@ -81,6 +86,7 @@ async fn serve_connection(folder: String, connecting: Connecting) {
 
 async fn serve_stream(folder: &str, mut send: SendStream, receive: RecvStream) -> Fallible<()> {
     let path = String::from_utf8(receive.read_to_end(MOST_PATH).await?)?;
+    let path = path.strip_prefix("GET ").map_or(&*path, str::trim_end);
     let is_below = !path.split('/').any(|part| part == "..");
     match std::fs::read(Path::new(folder).join(path.trim_start_matches('/'))) {
         Ok(bytes) if is_below => {
@@ -92,24 +98,28 @@ async fn serve_stream(folder: &str, mut send: SendStream, receive: RecvStream) -
     Ok(())
 }
 
-async fn connect(address: SocketAddr) -> Fallible<(Endpoint, Connection)> {
+async fn connect(address: SocketAddr, protocol: &[u8]) -> Fallible<(Endpoint, Connection)> {
     let mut tls = rustls::ClientConfig::builder()
         .with_safe_defaults()
         .with_custom_certificate_verifier(Arc::new(AnyCertificate))
         .with_no_client_auth();
-    tls.alpn_protocols = vec![PROTOCOL.to_vec()];
+    tls.alpn_protocols = vec![protocol.to_vec()];
     let mut endpoint = Endpoint::client("127.0.0.1:0".parse()?)?;
     endpoint.set_default_client_config(ClientConfig::new(Arc::new(tls)));
     let connection = endpoint.connect(address, "localhost")?.await?;
     Ok((endpoint, connection))
 }
 
-async fn load(address: SocketAddr, folder: &str, paths: &[&str]) -> Fallible<()> {
+async fn load(address: SocketAddr, protocol: &[u8], folder: &str, paths: &[&str]) -> Fallible<()> {
     let begin = Instant::now();
-    let (endpoint, connection) = connect(address).await?;
+    let (endpoint, connection) = connect(address, protocol).await?;
     let mut loading = Vec::new();
     for path in paths {
-        let one = load_one(connection.clone(), (*path).to_owned());
+        let request = match protocol {
+            HQ => format!("GET /{path}\r\n"),
+            _ => (*path).to_owned(),
+        };
+        let one = load_one(connection.clone(), request);
         loading.push((path, tokio::spawn(one)));
     }
     let mut count = 0;
@@ -130,7 +140,7 @@ async fn load(address: SocketAddr, folder: &str, paths: &[&str]) -> Fallible<()>
 }
 
 async fn stop(address: SocketAddr, path: &str) -> Fallible<()> {
-    let (endpoint, connection) = connect(address).await?;
+    let (endpoint, connection) = connect(address, PROTOCOL).await?;
     let (mut send, mut receive) = connection.open_bi().await?;
     send.write_all(path.as_bytes()).await?;
     send.finish().await?;
@@ -144,7 +154,7 @@ async fn stop(address: SocketAddr, path: &str) -> Fallible<()> {
 }
 
 async fn reset(address: SocketAddr, path: &str) -> Fallible<()> {
-    let (endpoint, connection) = connect(address).await?;
+    let (endpoint, connection) = connect(address, PROTOCOL).await?;
     let (mut send, receive) = connection.open_bi().await?;
     send.write_all(&path.as_bytes()[..1]).await?;
     send.reset(7u32.into())?;
