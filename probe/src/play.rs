@@ -399,6 +399,10 @@ impl Player {
         }
         Some(match self.seen.close.clone() {
             Some(out) => Outcome::of(&Permit::taken(), &out),
+            // How many streams HTTP/3 takes on is its own choice (RFC 9000, section 4.6).
+            None if self.is_http && matches!(owed, Owed::Streams(_)) => {
+                Outcome::new(Class::Choice, Outcome::owed(owed).told)
+            }
             None => Outcome::owed(owed),
         })
     }
