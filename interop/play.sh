@@ -232,3 +232,48 @@ gtls_loads() {
   done
   loads "$names" timeout 120 gtlsclient -q --exit-on-all-streams-close --download "$room/loaded" "$@" "${address%:*}" "${address##*:}" "${urls[@]}"
 }
+
+# gtlsserver is told its port: one that is free is found by trying.
+start_gtlsserver() {
+  local port
+  for _ in 1 2 3 4 5; do
+    port=$((20000 + RANDOM % 20000))
+    gtlsserver --no-quic-dump --no-http-dump "$@" -d "$room/files" 127.0.0.1 "$port" "$room/key.pem" "$room/cert.pem" >"$room/gtls.out" 2>&1 </dev/null &
+    started=$!
+    sleep 0.5
+    if kill -0 "$started" 2>/dev/null; then
+      running+=("$started")
+      address=127.0.0.1:$port
+      return
+    fi
+  done
+  failed=$((failed + 1))
+  echo 'FAILED: gtlsserver starts'
+}
+
+# Records datagrams until `recorded`. On a busy machine tshark begins late and writes late: a datagram to a port on which no one listens
+# is sent until it stands in the file.
+capture() {
+  rm -f "$room/trace.pcapng"
+  tshark -q -i lo -f "$1 or udp port 9 or udp port 10" -w "$room/trace.pcapng" >"$room/capture" 2>&1 </dev/null &
+  capturing=$!
+  running+=("$capturing")
+  check 'tshark begins' has_recorded 9
+}
+
+recorded() {
+  check 'tshark has recorded all' has_recorded 10
+  end "$capturing"
+}
+
+has_recorded() {
+  local tries
+  for tries in $(seq 100); do
+    echo >"/dev/udp/127.0.0.1/$1"
+    sleep 0.3
+    [ -z "$(tshark -r "$room/trace.pcapng" -Y "udp.dstport == $1" 2>/dev/null)" ] || return 0
+  done
+  echo "nothing after $tries tries"
+  cat "$room/capture"
+  return 1
+}

@@ -293,14 +293,10 @@ pub fn config(words: &mut Words) -> Result<Config, Refusal> {
     })
 }
 
-/// What a server of files makes its connections with. A write takes what the client grants alone, so that an answer which no one reads
-/// keeps little, and one that is read isn't held up by those.
+/// What a server of files makes its connections with.
 pub fn serving(config: Config, words: &mut Words) -> Result<Config, Refusal> {
-    let tuning = Tuning::default()
-        .within_credit(true)
-        .send_window(Some(budget::OF_CONNECTION));
     Ok(Config {
-        tuning,
+        tuning: Tuning::default().send_window(Some(budget::OF_CONNECTION)),
         connections: words.connections()?,
         ..config
     })

@@ -75,6 +75,23 @@ pub fn abandon(end: &mut Endpoint, stream: StreamId, code: u64) -> Result<(), Us
     }
 }
 
+/// Writes what the peer grants, and one byte more. That one waits, so that the peer is told what holds the stream back (RFC 9000, section
+/// 4.1). The rest stays where it is, so that an answer which no one reads keeps little, and one that is read isn't held up by those.
+pub fn write_granted(
+    end: &mut Endpoint,
+    stream: StreamId,
+    bytes: &[u8],
+) -> Result<usize, UseFault> {
+    let send = end.report(stream).and_then(|report| report.send);
+    let left = send.map_or(0, |send| send.limit.saturating_sub(send.written));
+    let granted = left.min(end.credit_left().saturating_sub(end.unsent_sum()));
+    let most = match granted {
+        0 => u64::from(end.unsent(stream) == 0),
+        granted => granted + 1,
+    };
+    end.write(stream, &bytes[..bytes.len().min(most as usize)])
+}
+
 /// Small, so that many answers keep little.
 const PIECE: u64 = 1 << 14;
 
@@ -172,7 +189,7 @@ impl Outgoing {
     ) -> Result<bool, UseFault> {
         loop {
             if self.written < self.piece.len() {
-                match end.write(stream, &self.piece[self.written..])? {
+                match write_granted(end, stream, &self.piece[self.written..])? {
                     0 => return Ok(false),
                     count => self.written += count,
                 }
@@ -191,11 +208,43 @@ impl Outgoing {
 #[cfg(test)]
 mod tests {
     use super::*;
-    use gotsavena::{Dir, Role, Settings};
+    use gotsavena::{Dir, Frame, PeerLimits, Role, Settings, frames};
+
+    // What is said of limits as an answer of 20 bytes goes, and how many bytes of it are kept.
+    fn blocked(limits: PeerLimits) -> (Vec<String>, u64) {
+        let mut end = Endpoint::new(Role::Client, Settings::small(), limits).unwrap();
+        let stream = end.open(Dir::Uni).unwrap();
+        let mut outgoing = Outgoing::new(Body::of_bytes(vec![7; 20]));
+        let (mut told, mut out) = (Vec::new(), [0; 1200]);
+        for _ in 0..3 {
+            assert_eq!(outgoing.write(&mut end, stream, 9), Ok(false));
+            while let Some(made) = end.make_packet(&mut out).unwrap() {
+                let all = frames(&out[..made.len]).flatten();
+                let others = all.filter(|placed| !matches!(placed.frame, Frame::Stream { .. }));
+                told.extend(others.map(|placed| format!("{:?}", placed.frame)));
+            }
+        }
+        (told, end.unsent_sum())
+    }
+
+    // RFC 9000, section 4.1: a sender that is blocked SHOULD say so.
+    #[test]
+    fn a_peer_is_told_which_limit_holds_an_answer_back() {
+        let limits = Settings::small().limits();
+        let (told, waits) = blocked(limits.max_data(5));
+        assert_eq!(
+            (&told[..], waits),
+            (&["DataBlocked { limit: 5 }".to_owned()][..], 1)
+        );
+        let (told, waits) = blocked(limits.stream_data(3));
+        assert_eq!((told.len(), waits), (1, 1));
+        assert!(told[0].starts_with("StreamDataBlocked"), "{told:?}");
+    }
 
     fn write_all(source: &'static [u8], len: u64) -> (u64, Option<u64>) {
         let settings = Settings::small().send_buffer(1 << 16);
-        let mut end = Endpoint::new(Role::Client, settings, settings.limits()).unwrap();
+        let wide = settings.limits().max_data(1 << 20).stream_data(1 << 20);
+        let mut end = Endpoint::new(Role::Client, settings, wide).unwrap();
         let stream = end.open(Dir::Uni).unwrap();
         let mut outgoing = Outgoing::new(Body::new(source, len));
         assert_eq!(outgoing.write(&mut end, stream, 9), Ok(true));

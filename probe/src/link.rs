@@ -31,6 +31,8 @@ pub struct Link {
     grants: PeerLimits,
     role: Role,
     unopened: u64,
+    /// Whether something came that asks for an ACK, and none went since (RFC 9000, section 13.2.1).
+    owes_ack: bool,
 }
 
 /// No case opens more streams of one direction.
@@ -121,6 +123,7 @@ impl Link {
             grants: config.settings.limits(),
             role,
             unopened: 0,
+            owes_ack: false,
         })
     }
 
@@ -185,7 +188,12 @@ impl Link {
         }
     }
 
-    fn ack(&self) -> Vec<u8> {
+    pub fn owes_ack(&self) -> bool {
+        self.owes_ack
+    }
+
+    fn ack(&mut self) -> Vec<u8> {
+        self.owes_ack = false;
         let mut shown = Numbers::default();
         for &(lowest, highest) in self.received.as_slice() {
             for number in lowest..=highest {
@@ -221,6 +229,7 @@ impl Link {
         for (number, payload) in heard.payloads {
             if !self.received.has(number) {
                 self.received.insert(number);
+                self.owes_ack |= has(&payload, asks_for_ack);
                 new.push((number, payload));
             }
         }
@@ -283,6 +292,15 @@ fn shake_hands(
             return Err(format!("no handshake: {outcome}"));
         }
     }
+}
+
+// (RFC 9002, section 2)
+fn asks_for_ack(frame: &Frame<'_>) -> bool {
+    use Frame::{Ack, ApplicationClose, ConnectionClose, Padding};
+    !matches!(
+        frame,
+        Ack { .. } | Padding | ConnectionClose { .. } | ApplicationClose { .. }
+    )
 }
 
 /// Whether a payload has such a frame.

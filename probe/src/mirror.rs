@@ -7,8 +7,8 @@
 use crate::verdicts::{Closes, Permit, Word, by_hand, row_of};
 use crate::wire::{self, byte_at, frame, stream_frame};
 use gotsavena::{
-    Endpoint, Frame, PeerLimits, Read, ReceiveFault, RecvState, Role, SendState, Settings,
-    StreamId, frames,
+    AckRanges, Endpoint, Frame, PeerLimits, Read, ReceiveFault, RecvState, Role, SendState,
+    Settings, StreamId, frames,
 };
 
 /// So many streams an endpoint may grant at first, and in all.
@@ -33,6 +33,15 @@ enum Event {
     Came(u64, Vec<u8>),
     /// It sent this one, under a number.
     Went(u64, Vec<u8>),
+}
+
+impl Event {
+    fn went(&mut self) -> Option<(&mut u64, &[u8])> {
+        match self {
+            Event::Went(number, payload) => Some((number, payload)),
+            Event::Came(..) => None,
+        }
+    }
 }
 
 #[derive(Clone, Copy, PartialEq, Eq)]
@@ -85,17 +94,22 @@ impl Mirror {
         received(&mut end, number, payload)
     }
 
-    /// What may come of the last payload where all that the peer sent behind it went before it came: packets cross.
+    /// What may come of the last payload where all that the peer sent behind it was decided before it came: packets cross. From the first
+    /// packet on that acknowledges it none had gone by then, so that it may not acknowledge those.
     pub fn take_late(&self) -> Permit {
         let is_came = |event: &Event| matches!(event, Event::Came(..));
         let Some(last) = self.events.iter().rposition(is_came) else {
             return Permit::taken();
         };
         let mut before = self.events.clone();
-        match before.remove(last) {
-            Event::Came(number, payload) => self.judge(&before, number, &payload),
-            Event::Went(..) => Permit::taken(),
+        let Event::Came(number, payload) = before.remove(last) else {
+            return Permit::taken();
+        };
+        let behind = before[last..].iter_mut().filter_map(Event::went);
+        for (own, _) in behind.skip_while(|(_, went)| !acknowledges(went, number)) {
+            *own = 0;
         }
+        self.judge(&before, number, &payload)
     }
 
     /// What it closes with as all comes that came, if it does.
@@ -325,6 +339,19 @@ impl Identifiers {
     }
 }
 
+fn acknowledges(payload: &[u8], number: u64) -> bool {
+    let has = |frame: &Frame<'_>| match *frame {
+        Frame::Ack {
+            largest, ranges, ..
+        } => {
+            let mut ranges = AckRanges::new(largest, ranges).into_iter().flatten();
+            ranges.any(|(lowest, highest)| (lowest..=highest).contains(&number))
+        }
+        _ => false,
+    };
+    frames(payload).flatten().any(|placed| has(&placed.frame))
+}
+
 fn received(end: &mut Endpoint, number: u64, payload: &[u8]) -> Option<Closes> {
     if end.closing().is_some() {
         return None;
@@ -516,5 +543,30 @@ fn endless(frame: &Frame<'_>) -> Option<Vec<u8>> {
         } => Some(stream_frame(stream.value(), offset, bytes, false)),
         Frame::ResetStream { .. } => Some(vec![0x01]),
         _ => None,
+    }
+}
+
+#[cfg(test)]
+mod tests {
+    use super::*;
+    use crate::link::settings;
+
+    // RFC 9000, section 13.1: the next number wasn't sent as its ACK went, though it is by now.
+    #[test]
+    fn an_ack_crosses_what_went_before_and_not_its_own_answer() {
+        let ack = |largest| frame(wire::ACK, &[largest, 0, 0, 0]);
+        for (next, word) in [(vec![0x01], None), (ack(5), Some(Word::Should))] {
+            let place = Place {
+                role: Role::Server,
+                grants: settings(false).limits(),
+                peer: settings(false).limits(),
+                active_ids: 2,
+            };
+            let mut mirror = Mirror::new(place, false);
+            mirror.follow(0, &[0x01]);
+            assert_eq!(mirror.take(5, &ack(1)).word, Some(Word::Should));
+            mirror.follow(1, &next);
+            assert_eq!(mirror.take_late().word, word, "{next:?}");
+        }
     }
 }

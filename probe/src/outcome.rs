@@ -107,7 +107,7 @@ impl Outcome {
             Owed::Reset(..) => (Class::Must, "RESET_STREAM (3.5)"),
             Owed::Stream(_) => (Class::Stalls, "MAX_STREAM_DATA (4.2)"),
             Owed::Data => (Class::Stalls, "MAX_DATA (4.2)"),
-            Owed::Streams(_) => (Class::Choice, "MAX_STREAMS (4.6)"),
+            Owed::Streams(_) => (Class::Stalls, "MAX_STREAMS (4.6)"),
             Owed::Blocked => (Class::Should, "DATA_BLOCKED or STREAM_DATA_BLOCKED (4.1)"),
             Owed::PathResponse => (Class::Must, "PATH_RESPONSE (8.2.2)"),
             Owed::Again => (Class::Must, "what was lost (13.3)"),

@@ -18,6 +18,8 @@ const PATIENCE: Duration = Duration::from_millis(1500);
 const PING: Duration = Duration::from_millis(200);
 /// How long an application may take to give up what its peer reset.
 const MOMENT: Duration = Duration::from_millis(150);
+/// So often an endpoint may send something more before it rests.
+const MOST_RESTS: u32 = 20;
 /// At most so much is sent to use a limit up, in payloads of the second size.
 const SMALL_LIMIT: u64 = 1 << 15;
 const PIECE: u64 = 1000;
@@ -301,13 +303,20 @@ impl Player {
                 return Some(Outcome::new(Class::Choice, "its answer doesn't end"));
             }
         }
-        if !self.is_quiet {
-            self.link.acknowledge();
+        self.rest()
+    }
+
+    // Until all is acknowledged that came: the endpoint may send again what it takes for lost, and hold its stream until that is
+    // acknowledged, too.
+    fn rest(&mut self) -> Option<Outcome> {
+        for _ in 0..MOST_RESTS {
+            match self.settle() {
+                Out::GoesOn if self.is_quiet || !self.link.owes_ack() => break,
+                Out::GoesOn => {}
+                out => return self.judge(String::new(), Permit::taken(), out),
+            }
         }
-        match self.settle() {
-            Out::GoesOn => None,
-            out => self.judge(String::new(), Permit::taken(), out),
-        }
+        None
     }
 
     // (so that it doesn't depend on the application's pace whether the stream is over)
@@ -319,11 +328,7 @@ impl Player {
         while stream & 2 == 0 && Instant::now() < until && !has_ended(&self.seen) {
             self.hear();
         }
-        self.link.acknowledge();
-        match self.settle() {
-            Out::GoesOn => None,
-            out => self.judge(String::new(), Permit::taken(), out),
-        }
+        self.rest()
     }
 
     fn fill(&mut self, stream: u64) -> Option<Outcome> {
@@ -399,6 +404,10 @@ impl Player {
         }
         Some(match self.seen.close.clone() {
             Some(out) => Outcome::of(&Permit::taken(), &out),
+            // How many streams HTTP/3 takes on is its own choice (RFC 9000, section 4.6).
+            None if self.is_http && matches!(owed, Owed::Streams(_)) => {
+                Outcome::new(Class::Choice, Outcome::owed(owed).told)
+            }
             None => Outcome::owed(owed),
         })
     }

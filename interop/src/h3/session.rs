@@ -7,7 +7,7 @@ use super::declarations::*;
 use super::{CLOSED_CRITICAL_STREAM, INTERNAL_ERROR, NO_ERROR, REQUEST_CANCELLED};
 use crate::fault::Close;
 use crate::priorities;
-use crate::streams::{Body, abandon};
+use crate::streams::{Body, abandon, write_granted};
 use gotsavena::{Dir, Endpoint, OpenFault, Read, Role, StreamId, UseFault};
 use std::collections::{BTreeSet, HashMap, VecDeque};
 use std::ffi::{CStr, c_int, c_void};
@@ -639,7 +639,9 @@ impl Session {
     // Whether the connection takes nothing for now: not even its control stream does, on which next to nothing goes; or enough waits to
     // be sent, before which what comes to be more urgent couldn't go.
     fn is_full(&self, end: &Endpoint) -> bool {
-        end.room(self.own[0]) == 0 || end.unsent_sum() >= MOST_UNSENT
+        let waits = end.unsent_sum();
+        let is_blocked = end.credit_left() == 0 && waits > 0;
+        is_blocked || end.room(self.own[0]) == 0 || waits >= MOST_UNSENT
     }
 
     // A file that can't be read any more breaks its stream off.
@@ -662,7 +664,7 @@ impl Session {
         for part in parts {
             // Sound: the library's bytes stay until they are acknowledged to it, below.
             let bytes = unsafe { slice(part.base, part.len) };
-            match end.write(id(stream), bytes) {
+            match write_granted(end, id(stream), bytes) {
                 Ok(count) => written += count,
                 Err(UseFault::WasReset) => return self.stopped(stream),
                 Err(fault) => return Err(internal(fault)),

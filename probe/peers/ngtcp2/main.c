@@ -14,12 +14,8 @@
 
 enum { GIVEN_UP = 9, MOST_ITEMS = 256, MOST_PEERS = 65536, DATAGRAM = 1200, TURNS = 64 };
 
-struct item {
-  int64_t stream;
-  const char *bytes;
-  size_t len;
-  uint32_t flags;
-};
+struct item { int64_t stream; const char *bytes; size_t len; uint32_t flags; };
+
 struct served {
   ngtcp2_conn *conn;
   gnutls_session_t tls;
@@ -27,8 +23,6 @@ struct served {
   struct sockaddr_in peer;
   struct item items[MOST_ITEMS];
   size_t count;
-  int closed;
-  ngtcp2_tstamp last;
 };
 
 /* By the client's port. */
@@ -44,16 +38,11 @@ static ngtcp2_tstamp now(void) {
 }
 
 static ngtcp2_conn *conn_of(ngtcp2_crypto_conn_ref *ref) { return ((struct served *)ref->user_data)->conn; }
-
-static void random_bytes(uint8_t *to, size_t len, const ngtcp2_rand_ctx *context) {
-  (void)context;
-  gnutls_rnd(GNUTLS_RND_RANDOM, to, len);
-}
+static void random_bytes(uint8_t *to, size_t len, const ngtcp2_rand_ctx *context) { (void)context, gnutls_rnd(GNUTLS_RND_RANDOM, to, len); }
 
 static int new_id(ngtcp2_conn *conn, ngtcp2_cid *id, uint8_t *token, size_t len, void *user) {
   (void)conn, (void)user;
-  gnutls_rnd(GNUTLS_RND_RANDOM, id->data, len);
-  id->datalen = len;
+  gnutls_rnd(GNUTLS_RND_RANDOM, id->data, id->datalen = len);
   return gnutls_rnd(GNUTLS_RND_RANDOM, token, NGTCP2_STATELESS_RESET_TOKENLEN) == 0 ? 0 : NGTCP2_ERR_CALLBACK_FAILURE;
 }
 
@@ -78,8 +67,8 @@ static int came(ngtcp2_conn *conn, uint32_t flags, int64_t stream, uint64_t offs
 
 static int is_over(ngtcp2_conn *conn, uint32_t flags, int64_t stream, uint64_t code, void *user, void *own_data) {
   (void)flags, (void)code, (void)user, (void)own_data;
-  if ((stream & 1) == 0 && (stream & 2) != 0) ngtcp2_conn_extend_max_streams_uni(conn, 1);
-  if ((stream & 1) == 0 && (stream & 2) == 0) ngtcp2_conn_extend_max_streams_bidi(conn, 1);
+  if ((stream & 3) == 2) ngtcp2_conn_extend_max_streams_uni(conn, 1);
+  if ((stream & 3) == 0) ngtcp2_conn_extend_max_streams_bidi(conn, 1);
   return 0;
 }
 
@@ -89,35 +78,31 @@ static int was_reset(ngtcp2_conn *conn, int64_t stream, uint64_t size, uint64_t 
   return 0;
 }
 
-static ngtcp2_callbacks callbacks(void) {
-  ngtcp2_callbacks calls = {0};
-  calls.recv_client_initial = ngtcp2_crypto_recv_client_initial_cb;
-  calls.recv_crypto_data = ngtcp2_crypto_recv_crypto_data_cb;
-  calls.handshake_completed = done;
-  calls.encrypt = ngtcp2_crypto_encrypt_cb;
-  calls.decrypt = ngtcp2_crypto_decrypt_cb;
-  calls.hp_mask = ngtcp2_crypto_hp_mask_cb;
-  calls.recv_stream_data = came;
-  calls.stream_close = is_over;
-  calls.stream_reset = was_reset;
-  calls.rand = random_bytes;
-  calls.get_new_connection_id = new_id;
-  calls.update_key = ngtcp2_crypto_update_key_cb;
-  calls.delete_crypto_aead_ctx = ngtcp2_crypto_delete_crypto_aead_ctx_cb;
-  calls.delete_crypto_cipher_ctx = ngtcp2_crypto_delete_crypto_cipher_ctx_cb;
-  calls.get_path_challenge_data = ngtcp2_crypto_get_path_challenge_data_cb;
-  calls.version_negotiation = ngtcp2_crypto_version_negotiation_cb;
-  return calls;
-}
+static const ngtcp2_callbacks callbacks = {
+  .recv_client_initial = ngtcp2_crypto_recv_client_initial_cb,
+  .recv_crypto_data = ngtcp2_crypto_recv_crypto_data_cb,
+  .handshake_completed = done,
+  .encrypt = ngtcp2_crypto_encrypt_cb,
+  .decrypt = ngtcp2_crypto_decrypt_cb,
+  .hp_mask = ngtcp2_crypto_hp_mask_cb,
+  .recv_stream_data = came,
+  .stream_close = is_over,
+  .stream_reset = was_reset,
+  .rand = random_bytes,
+  .get_new_connection_id = new_id,
+  .update_key = ngtcp2_crypto_update_key_cb,
+  .delete_crypto_aead_ctx = ngtcp2_crypto_delete_crypto_aead_ctx_cb,
+  .delete_crypto_cipher_ctx = ngtcp2_crypto_delete_crypto_cipher_ctx_cb,
+  .get_path_challenge_data = ngtcp2_crypto_get_path_challenge_data_cb,
+  .version_negotiation = ngtcp2_crypto_version_negotiation_cb,
+};
 
 static ngtcp2_transport_params parameters(const ngtcp2_cid *first) {
   ngtcp2_transport_params told;
   ngtcp2_transport_params_default(&told);
-  told.initial_max_data = 20000;
+  told.initial_max_data = 20000, told.max_idle_timeout = 30 * NGTCP2_SECONDS, told.active_connection_id_limit = 4;
   told.initial_max_stream_data_bidi_local = told.initial_max_stream_data_bidi_remote = told.initial_max_stream_data_uni = 8192;
   told.initial_max_streams_bidi = told.initial_max_streams_uni = 16;
-  told.max_idle_timeout = 30 * NGTCP2_SECONDS;
-  told.active_connection_id_limit = 4;
   told.original_dcid = *first;
   return told;
 }
@@ -126,10 +111,8 @@ static int start_tls(struct served *served) {
   gnutls_datum_t alpn = {(unsigned char *)"gotsavena-raw", 13};
   const char *priority = "NORMAL:-VERS-ALL:+VERS-TLS1.3:-CIPHER-ALL:+AES-128-GCM:+AES-256-GCM:+CHACHA20-POLY1305:%DISABLE_TLS13_COMPAT_MODE";
   if (gnutls_init(&served->tls, GNUTLS_SERVER | GNUTLS_NO_AUTO_SEND_TICKET | GNUTLS_NO_END_OF_EARLY_DATA) < 0) return -1;
-  if (gnutls_priority_set_direct(served->tls, priority, NULL) < 0) return -1;
-  if (gnutls_credentials_set(served->tls, GNUTLS_CRD_CERTIFICATE, credentials) < 0) return -1;
+  if (gnutls_priority_set_direct(served->tls, priority, NULL) < 0 || gnutls_credentials_set(served->tls, GNUTLS_CRD_CERTIFICATE, credentials) < 0) return -1;
   if (ngtcp2_crypto_gnutls_configure_server_session(served->tls) != 0) return -1;
-  served->ref = (ngtcp2_crypto_conn_ref){conn_of, served};
   gnutls_session_set_ptr(served->tls, &served->ref);
   ngtcp2_conn_set_tls_native_handle(served->conn, served->tls);
   return gnutls_alpn_set_protocols(served->tls, &alpn, 1, GNUTLS_ALPN_MANDATORY);
@@ -149,22 +132,19 @@ static void end(struct served *served) {
 static struct served *begin(const uint8_t *bytes, size_t len, const struct sockaddr_in *peer) {
   ngtcp2_pkt_hd head;
   ngtcp2_settings settings;
-  ngtcp2_callbacks calls = callbacks();
   ngtcp2_cid id = {8, {0}};
   if (ngtcp2_accept(&head, bytes, len) != 0) return NULL;
   struct served *served = calloc(1, sizeof *served);
   if (!served) return NULL;
-  served->peer = *peer;
+  served->peer = *peer, served->ref = (ngtcp2_crypto_conn_ref){conn_of, served};
   table[ntohs(peer->sin_port)] = served;
   ngtcp2_settings_default(&settings);
-  settings.initial_ts = now();
-  settings.no_pmtud = 1;
-  settings.max_window = 20000;
-  settings.max_stream_window = 8192;
+  settings.initial_ts = now(), settings.no_pmtud = 1;
+  settings.max_window = 20000, settings.max_stream_window = 8192;
   gnutls_rnd(GNUTLS_RND_RANDOM, id.data, id.datalen);
   ngtcp2_transport_params told = parameters(&head.dcid);
   ngtcp2_path path = path_of(served);
-  if (ngtcp2_conn_server_new(&served->conn, &head.scid, &id, &path, head.version, &calls, &settings, &told, NULL, served) != 0) served->conn = NULL;
+  if (ngtcp2_conn_server_new(&served->conn, &head.scid, &id, &path, head.version, &callbacks, &settings, &told, NULL, served) != 0) served->conn = NULL;
   if (served->conn && start_tls(served) == 0) return served;
   end(served);
   return NULL;
@@ -174,73 +154,47 @@ static void out(const struct served *served, const uint8_t *bytes, ngtcp2_ssize 
   sendto(sock.fd, bytes, (size_t)len, 0, (const struct sockaddr *)&served->peer, sizeof served->peer);
 }
 
+/* Its packets behind the close are of no connection. */
 static void fail(struct served *served, int why) {
   uint8_t bytes[DATAGRAM];
-  ngtcp2_path_storage path;
-  ngtcp2_pkt_info info;
-  ngtcp2_connection_close_error close;
-  ngtcp2_path_storage_zero(&path);
-  ngtcp2_connection_close_error_default(&close);
+  ngtcp2_connection_close_error close = {0};
   ngtcp2_connection_close_error_set_transport_error_liberr(&close, why, NULL, 0);
-  ngtcp2_ssize len = ngtcp2_conn_write_connection_close(served->conn, &path.path, &info, bytes, sizeof bytes, &close, now());
+  ngtcp2_ssize len = ngtcp2_conn_write_connection_close(served->conn, NULL, NULL, bytes, sizeof bytes, &close, now());
   if (len > 0) out(served, bytes, len);
-  served->closed = 1;
+  end(served);
 }
 
-/* What is to be written first goes behind the others where its stream is blocked. */
-static void turn(struct served *served, int is_done) {
-  struct item first = served->items[0];
-  memmove(served->items, served->items + 1, --served->count * sizeof first);
-  if (!is_done) served->items[served->count++] = first;
-}
-
+/* What is blocked is left where it is. */
 static void flush(struct served *served) {
   uint8_t bytes[DATAGRAM];
-  ngtcp2_pkt_info info;
-  for (int place = 0; place < TURNS; place++) {
-    struct item none = {-1, NULL, 0, 0}, *item = served->count ? served->items : &none;
-    ngtcp2_path_storage path;
-    ngtcp2_ssize took = -1;
-    ngtcp2_path_storage_zero(&path);
-    ngtcp2_ssize len = ngtcp2_conn_write_stream(served->conn, &path.path, &info, bytes, sizeof bytes, &took, item->flags, item->stream, (const uint8_t *)item->bytes, item->len, now());
-    int gone = len == NGTCP2_ERR_STREAM_SHUT_WR || len == NGTCP2_ERR_STREAM_NOT_FOUND;
+  for (size_t at = 0, turns = 0; turns < TURNS + MOST_ITEMS; turns++) {
+    struct item none = {-1, NULL, 0, 0}, *item = at < served->count ? &served->items[at] : &none;
+    ngtcp2_ssize took = -1, len = ngtcp2_conn_write_stream(served->conn, NULL, NULL, bytes, sizeof bytes, &took, item->flags, item->stream, (const uint8_t *)item->bytes, item->len, now());
+    int is_gone = len == NGTCP2_ERR_STREAM_SHUT_WR || len == NGTCP2_ERR_STREAM_NOT_FOUND;
     if (took > 0) item->bytes += took, item->len -= (size_t)took;
-    if (item != &none && (gone || (took >= 0 && item->len == 0))) turn(served, 1);
-    if (len == NGTCP2_ERR_STREAM_DATA_BLOCKED) {
-      turn(served, 0);
-      len = ngtcp2_conn_write_pkt(served->conn, &path.path, &info, bytes, sizeof bytes, now());
-    }
-    if (len < 0 && !gone) { fail(served, (int)len); return; }
-    if (len == 0) return;
-    if (len > 0) out(served, bytes, len);
+    if (is_gone || (took >= 0 && item->len == 0)) *item = served->items[--served->count];
+    if (len == NGTCP2_ERR_STREAM_DATA_BLOCKED) at++;
+    else if (len < 0 && !is_gone) { fail(served, (int)len); return; }
+    else if (len == 0) return;
+    else if (len > 0) out(served, bytes, len);
   }
 }
 
 static void take(uint8_t *bytes, size_t len, const struct sockaddr_in *peer) {
   struct served *served = table[ntohs(peer->sin_port)];
   ngtcp2_pkt_info info = {0};
-  if (served && served->closed) {
-    if (!(bytes[0] & 0x80)) return;
-    end(served);
-    served = NULL;
-  }
-  if (!served) served = begin(bytes, len, peer);
-  if (!served) return;
-  served->last = now();
+  if (!served && !(served = begin(bytes, len, peer))) return;
   ngtcp2_path path = path_of(served);
   int why = ngtcp2_conn_read_pkt(served->conn, &path, &info, bytes, len, now());
-  if (why == NGTCP2_ERR_DRAINING) served->closed = 1;
+  if (why == NGTCP2_ERR_DRAINING) end(served);
   else if (why != 0) fail(served, why);
   else flush(served);
 }
 
-static void look_at_time(struct served *served) {
-  if (served->closed) {
-    if (now() - served->last > 2 * NGTCP2_SECONDS) end(served);
-  } else if (ngtcp2_conn_get_expiry(served->conn) <= now()) {
-    if (ngtcp2_conn_handle_expiry(served->conn, now()) != 0) served->closed = 1;
-    else flush(served);
-  }
+/* Where nothing came for too long the connection is forgotten. */
+static void time_is_up(struct served *served) {
+  if (ngtcp2_conn_handle_expiry(served->conn, now()) != 0) end(served);
+  else flush(served);
 }
 
 int main(int argc, char **argv) {
@@ -250,8 +204,7 @@ int main(int argc, char **argv) {
   sock.fd = socket(AF_INET, SOCK_DGRAM, 0);
   own = (struct sockaddr_in){.sin_family = AF_INET, .sin_port = htons((uint16_t)atoi(argv[1])), .sin_addr = {htonl(INADDR_LOOPBACK)}};
   if (sock.fd < 0 || bind(sock.fd, (struct sockaddr *)&own, sizeof own) != 0) return perror("bind"), 1;
-  for (;;) {
-    poll(&sock, 1, 2);
+  for (;; poll(&sock, 1, 2)) {
     for (int place = 0; place < TURNS; place++) {
       uint8_t bytes[65536];
       struct sockaddr_in peer;
@@ -261,6 +214,6 @@ int main(int argc, char **argv) {
       take(bytes, (size_t)len, &peer);
     }
     for (size_t place = 0; place < MOST_PEERS; place++)
-      if (table[place]) look_at_time(table[place]);
+      if (table[place] && ngtcp2_conn_get_expiry(table[place]->conn) <= now()) time_is_up(table[place]);
   }
 }

@@ -11,8 +11,9 @@ use gotsavena_interop::program::{self, Refusal, Words, listen};
 use gotsavena_interop::raw::PROTOCOL;
 use gotsavena_interop::server::Server;
 use gotsavena_interop::stop::Stop;
-use gotsavena_interop::streams::{Application, abandon};
+use gotsavena_interop::streams::{Application, Body, Outgoing, abandon};
 use gotsavena_interop::tls::server_config;
+use std::collections::BTreeMap;
 use std::process::ExitCode;
 
 /// The code with which a stream's answer is given up.
@@ -21,6 +22,8 @@ const GIVEN_UP: u64 = 9;
 #[derive(Default)]
 struct Sink {
     has_begun: bool,
+    /// What wasn't granted yet goes later.
+    answers: BTreeMap<StreamId, Outgoing>,
 }
 
 impl Application for Sink {
@@ -37,28 +40,32 @@ impl Application for Sink {
         }
         let mut from = StreamId::new(0);
         while let Some(stream) = from.and_then(|from| end.next_readable(from)) {
-            drain(end, stream);
+            self.drain(end, stream);
             from = stream.next();
         }
+        self.answers
+            .retain(|stream, answer| matches!(answer.write(end, *stream, GIVEN_UP), Ok(false)));
         Ok(())
     }
 }
 
-fn drain(end: &mut Endpoint, stream: StreamId) {
-    let mut buffer = [0; 4096];
-    loop {
-        match end.read(stream, &mut buffer) {
-            Ok(Read::Bytes(_)) => continue,
-            Ok(Read::End) if stream.dir() == Dir::Bidi => {
-                _ = end.write(stream, b"ok");
-                _ = end.finish(stream);
+impl Sink {
+    fn drain(&mut self, end: &mut Endpoint, stream: StreamId) {
+        let mut buffer = [0; 4096];
+        loop {
+            match end.read(stream, &mut buffer) {
+                Ok(Read::Bytes(_)) => continue,
+                Ok(Read::End) if stream.dir() == Dir::Bidi => {
+                    let answer = Outgoing::new(Body::of_bytes(b"ok".to_vec()));
+                    self.answers.insert(stream, answer);
+                }
+                Ok(Read::Reset(_)) if stream.dir() == Dir::Bidi => {
+                    _ = abandon(end, stream, GIVEN_UP);
+                }
+                _ => {}
             }
-            Ok(Read::Reset(_)) if stream.dir() == Dir::Bidi => {
-                _ = abandon(end, stream, GIVEN_UP);
-            }
-            _ => {}
+            return;
         }
-        return;
     }
 }
 

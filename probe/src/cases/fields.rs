@@ -122,6 +122,11 @@ fn again() -> Vec<Case> {
         .needs(&[Need::Limit(Whose::Peers, Dir::Uni)]),
         Case::new("again/at-credit", vec![send(tails), send(tails)]).needs(&[Need::Credit]),
         Case::new(
+            "again/bytes-at-credit",
+            vec![send(repeat), send(tails), send(repeat)],
+        )
+        .needs(&[Need::Limit(Whose::Peers, Dir::Uni), Need::Credit]),
+        Case::new(
             "again/fin",
             vec![
                 send(|context| context.stream(uni(context, 0), 30, 10, true)),
@@ -339,7 +344,8 @@ fn layouts() -> Vec<Case> {
     for (name, kind) in unknown {
         let mut text = Vec::new();
         push_varint(&mut text, kind);
-        text.extend([1, 7]);
+        // (two PINGs behind it, lest these be refused where the type isn't; or a datagram of a byte)
+        text.extend([1, 1]);
         all.push(one(&format!("unknown-type/{name}"), text));
     }
     all
