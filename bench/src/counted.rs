@@ -3,9 +3,11 @@
 use crate::acts::{Act, played};
 use crate::counting::gotsavena_counted;
 use crate::ends::{Load, PLAIN, Pair, Way};
-use crate::growth::{fills, lossy, outstanding, requests};
+use crate::growth::{
+    LONG_PAST, SHORT_PAST, events_after, fills, lossy, none_after, outstanding, requests,
+};
 use crate::parts::{IN_REVERSE, half_takes_in_order, half_takes_in_reverse, mixed, read_once};
-use crate::requests::{Manner, Requests};
+use crate::requests::{Manner, Past, Requests};
 
 /// A named piece of work.
 pub struct Counted {
@@ -114,6 +116,22 @@ pub fn all() -> Vec<Counted> {
         counted("requests-first", || requests(0)),
         // Past the power of two, at which each table takes twice its room: all requests before share that, and not the 64 that are counted.
         counted("requests-after-2-to-the-20", || requests((1 << 20) + 100)),
+        counted("none-short", || none_after(Past::Plain, SHORT_PAST)),
+        counted("none-long", || none_after(Past::Plain, LONG_PAST)),
+        counted("none-long-cancelled", || {
+            none_after(Past::Cancelled, LONG_PAST)
+        }),
+        counted("none-long-one-open", || {
+            none_after(Past::OneOpen, LONG_PAST)
+        }),
+        counted("events-short", || events_after(Past::Plain, SHORT_PAST)),
+        counted("events-long", || events_after(Past::Plain, LONG_PAST)),
+        counted("events-long-cancelled", || {
+            events_after(Past::Cancelled, LONG_PAST)
+        }),
+        counted("events-long-one-open", || {
+            events_after(Past::OneOpen, LONG_PAST)
+        }),
         counted("fill-of-100", || fills(100)),
         counted("fill-of-10000", || fills(10_000)),
         counted("write", || played(Act::Write)),

@@ -4,7 +4,7 @@ use crate::counted::turns_of;
 use crate::counting::{counted_late, gotsavena_counted};
 use crate::ends::{Load, PLAIN};
 use crate::pattern::Source;
-use crate::requests::{Manner, Requests};
+use crate::requests::{Manner, Past, Requests};
 use gotsavena::{Dir, Endpoint, Fill, Read, Role, Settings, StreamId};
 use std::hint::black_box;
 
@@ -169,6 +169,41 @@ pub fn requests(ended: u64) -> u64 {
         }
     });
     units
+}
+
+/// The past of works of events: many requests, or as few as fit in the tables' first room.
+pub const LONG_PAST: u64 = (1 << 18) + 100;
+pub const SHORT_PAST: u64 = 1 << 10;
+
+// Two endpoints that are asked for events after each packet, after so many requests of which none waits to be told.
+fn with_past(past: Past, ended: u64) -> Requests {
+    let mut requests = Requests::new(Manner::Events, ended + 1000);
+    requests.play_past(past, ended);
+    requests
+}
+
+/// Requests with events, after so many with this past.
+pub fn events_after(past: Past, ended: u64) -> u64 {
+    let units = 64;
+    let mut requests = with_past(past, ended);
+    counted_late(&mut || {
+        for _ in 0..units {
+            requests.play();
+        }
+    });
+    units
+}
+
+/// The question for an event where there is none, after so many requests with this past.
+pub fn none_after(past: Past, ended: u64) -> u64 {
+    let turns = 32;
+    let mut requests = with_past(past, ended);
+    counted_late(&mut || {
+        for _ in 0..turns {
+            requests.ask_in_vain();
+        }
+    });
+    turns * 2
 }
 
 /// Packets are filled while this many streams have pending bytes.

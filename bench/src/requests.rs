@@ -19,6 +19,19 @@ pub enum Manner {
     Steps,
 }
 
+/// What becomes of the streams of requests.
+#[derive(Clone, Copy, PartialEq, Eq)]
+pub enum Past {
+    /// Each ends.
+    Plain,
+    /// Of 64 one is cancelled: reset and stopped by the client.
+    Cancelled,
+    /// The first one stays open.
+    OneOpen,
+}
+
+const CANCELLED: u64 = 0x10c;
+
 const ANSWER: usize = 1024;
 
 pub struct Requests {
@@ -57,6 +70,53 @@ impl Requests {
             self.by_steps(stream);
         } else {
             self.by_packets(stream);
+        }
+    }
+
+    /// So many requests, with such a past.
+    pub fn play_past(&mut self, past: Past, count: u64) {
+        for number in 0..count {
+            match past {
+                Past::Cancelled if number % 64 == 0 => self.cancel(),
+                Past::OneOpen if number == 0 => _ = self.leave_open(),
+                _ => self.play(),
+            }
+        }
+    }
+
+    fn cancel(&mut self) {
+        let stream = self.leave_open();
+        let Requests { client, server, .. } = self;
+        client.reset(stream, CANCELLED).expect("it is open");
+        client.stop(stream, CANCELLED).expect("it is open");
+        hand_on(client, server);
+        poll(server);
+        let mut bytes = [0; 8];
+        assert_eq!(server.read(stream, &mut bytes), Ok(Read::Reset(CANCELLED)));
+        hand_on(server, client);
+        poll(client);
+        hand_on(client, server);
+        poll(server);
+    }
+
+    fn leave_open(&mut self) -> StreamId {
+        let Requests { client, server, .. } = self;
+        let stream = client
+            .open(Dir::Bidi)
+            .expect("the count grew as streams ended");
+        assert_eq!(client.write(stream, b"?"), Ok(1));
+        hand_on(client, server);
+        poll(server);
+        assert_eq!(server.accept(), Some(stream));
+        hand_on(server, client);
+        poll(client);
+        stream
+    }
+
+    /// Both endpoints are asked for an event, where there is none.
+    pub fn ask_in_vain(&mut self) {
+        for end in [&mut self.client, &mut self.server] {
+            assert_eq!(end.next_event(), Ok(None));
         }
     }
 
