@@ -3,11 +3,14 @@
 //! that was written was read, by the windows that it fills. And runs that refute less: a term left out, or the fullest stream in place of
 //! the sum.
 
+#[path = "support/refusing.rs"]
+mod refusing;
 mod support;
 
 use gotsavena::{
     Dir, Endpoint, Received, Role, SendState, Settings, Share, StreamId, Token, Tuning,
 };
+use refusing::refused;
 use std::collections::HashMap;
 use support::Random;
 use support::doubled::{Want, all_frames, fill_one};
@@ -229,6 +232,7 @@ impl Course {
         let place = random.below(self.streams.len().max(1) as u64) as usize;
         match self.streams.get(place) {
             Some(&stream) if random.chance(70) => self.ask(side, stream, random, most),
+            Some(&stream) if random.chance(30) => self.without_memory(side, stream, random),
             Some(_) if random.chance(80) => self.pass(side, random),
             _ => self.open(side, [Dir::Bidi, Dir::Uni][random.below(2) as usize], most),
         }
@@ -239,7 +243,10 @@ impl Course {
         match random.below(24) {
             0..=9 => self.write(side, stream, 1 + random.below(2 * most) as usize),
             10..=12 => _ = self.ends[side].finish(stream),
-            13 => _ = self.ends[side].set_grant(Dir::Bidi, random.below(9)),
+            13 => {
+                let dir = [Dir::Bidi, Dir::Uni][random.below(2) as usize];
+                _ = self.ends[side].set_grant(dir, random.below(9));
+            }
             14..=17 => self.read_all(side),
             18 | 19 => self.break_off(side, stream, random.chance(50)),
             _ => {
@@ -269,6 +276,26 @@ impl Course {
         };
         if done.is_ok() {
             self.windows[side].insert(window, size);
+        }
+    }
+
+    // A call that is refused an allocation: of a packet that comes, whenever it was made, of one that is made, of a write, or of a token.
+    fn without_memory(&mut self, side: usize, stream: StreamId, random: &mut Random) {
+        let place = random.below(self.packets[side].len().max(1) as u64) as usize;
+        let number = random.below(3);
+        match (random.below(4), self.packets[side].get(place)) {
+            (0, Some((token, text))) => {
+                _ = refused(number, || self.ends[1 - side].receive(token.number, text));
+            }
+            (1, Some((token, text))) => {
+                let took = all_frames(text)
+                    .iter()
+                    .all(|frame| self.ends[1 - side].take_frame(frame).is_ok());
+                assert!(took);
+                _ = refused(number, || self.ends[side].acked(*token));
+            }
+            (2, _) => _ = refused(number, || self.ends[side].make_packet(&mut [0; 300])),
+            _ => _ = refused(number, || self.ends[side].write(stream, &[7; 9])),
         }
     }
 
@@ -308,8 +335,13 @@ fn random_course(seed: u64) -> Course {
     let mut random = Random::new(seed);
     let most = [1, 3, 16, 100, 512][(seed % 5) as usize];
     let window = 1 + random.below(most);
+    let conn = if random.chance(10) {
+        1 << 40
+    } else {
+        1 + random.below(most)
+    };
     let settings = Settings::small()
-        .conn_window(1 + random.below(most))
+        .conn_window(conn)
         .stream_windows(window)
         .send_buffer(2048)
         .streams(1 + random.below(8), 64);

@@ -173,6 +173,6 @@ module _ (a b : Settings) where
       pub stream_charged : sent_on (end_of sent.ends s) n + suc (k.streams n) ≤ sent_on (end_of again.ends s) n
       stream_charged =
           let before = value_sent (sending sent.ends s n) in
-          let now : sent_on (end_of again.ends s) n ≡ l.sent_end = rw at refl in
+          let now : sent_on (end_of again.ends s) n ≡ l.sent_end = ap (λ (o : Option SendLane). elim o as (λ _. ℕ) [ None ↦ 0 | Some j ↦ j.sent_end ]) at in
           let all = by_reader (receiving end.ends s n) refl (slot_paid n) in
           omega (arith, before, now, all)

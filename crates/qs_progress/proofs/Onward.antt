@@ -29,7 +29,7 @@ use Rattle.qs_runs.proofs.Lists.{Among_left}
 use Rattle.qs_runs.proofs.Stays.{each_side}
 use Rattle.qs_progress.specs.Laps.{Moment, Trail}
 use Rattle.qs_progress.specs.Comes.{IsReached}
-use Rattle.qs_progress.specs.Windows.{sent_by, senders}
+use Rattle.qs_progress.specs.Windows.{senders}
 use Rattle.qs_progress.proofs.Filled.{SentMore}
 use Rattle.qs_progress.proofs.Sums.{le_same}
 use Rattle.qs_progress.proofs.Trails.{reached}
@@ -107,7 +107,7 @@ end_call old call answer new step =
     }
 
 -- what an end sent
-pub value_sent : (o : Option SendLane) → value (λ (l : SendLane). l.sent_end) o ≡ sent_by o
+pub value_sent : (o : Option SendLane) → value (λ (l : SendLane). l.sent_end) o ≡ elim o as (λ _. ℕ) [ None ↦ 0 | Some l ↦ l.sent_end ]
 value_sent None = refl
 value_sent (Some l) = refl
 

@@ -1,7 +1,7 @@
 -- Trusted.
 -- All that is written is read in time, and rest comes, and a number of windows bounds how many rounds that takes. The whole file is ours, but
 -- that a clause names its section of RFC 9000.
-use Rattle.std.specs.Prelude.{◌≡◌, ℕ, suc, ◌+◌, ◌-◌, ◌*◌, ◌/◌, ◌≤◌, Bool, false, List, Option, None, Some}
+use Rattle.std.specs.Prelude.{◌≡◌, ℕ, suc, ◌+◌, ◌-◌, ◌*◌, ◌/◌, ◌≤◌, Bool, false, List, None, Some}
 use Rattle.std.specs.List.{range_with_len, sum_by}
 use Rattle.qs_recv.specs.Lane.{RecvLane, step}
 use Rattle.qs_recv.specs.declared.credit.Share.{Share}
@@ -38,13 +38,9 @@ pub record AreAsWide (k : Widths) (e : End) : Type 0 where
 abbrev pub WideRound : (Side → Widths) → Moment → Moment → Type 0
 WideRound k old new = Round old new × ((s : Side) → AreAsWide (k s) (end_of new.ends s))
 
--- how many bytes were sent, of a half and of a stream
-abbrev pub sent_by : Option SendLane → ℕ
-sent_by None = 0
-sent_by (Some l) = l.sent_end
-
+-- how many bytes of a stream were sent
 abbrev pub sent_on : End → ℕ → ℕ
-sent_on e n = sent_by (send_lane e n)
+sent_on e n = elim (send_lane e n) [ None ↦ 0 | Some l ↦ l.sent_end ]
 
 -- how many sending halves an end has: no stream's index is as great
 abbrev pub senders : End → ℕ
