@@ -18,13 +18,18 @@ install_packages() {
   DEBIAN_FRONTEND=noninteractive timeout 600 apt-get -o DPkg::Lock::Timeout=300 install -qq -y --no-install-recommends "$@"
 }
 
+# The version of nghttp3 whose header the C compiler finds.
+nghttp3_version() {
+  echo NGHTTP3_VERSION | cc -E -P -include nghttp3/version.h - 2>/dev/null | tr -d '"' || true
+}
+
 # The versions for which the example is written are those of Debian 12. Says what isn't so.
 other_versions() {
   local crate
   for crate in "$@"; do
     compgen -G "$registry/$crate*" >/dev/null || echo "the crate ${crate%.}"
   done
-  grep -qsF '"0.8.' /usr/include/nghttp3/version.h || echo 'nghttp3 0.8'
+  [[ $(nghttp3_version) == 0.8.* ]] || echo 'nghttp3 0.8'
 }
 
 # Cargo, in the package's folder, with Debian's crates in place of the registry, from a folder for its settings. What is built is

@@ -5,7 +5,7 @@
 
 use gotsavena_interop::client::run_errand;
 use gotsavena_interop::h3::client::{Loader, Manners, Url};
-use gotsavena_interop::h3::{NO_ERROR, PROTOCOL};
+use gotsavena_interop::h3::{NO_ERROR, PROTOCOL, look_at_library};
 use gotsavena_interop::program::{self, Refusal, Words, addresses, client, config, save};
 use std::process::ExitCode;
 use std::time::Instant;
@@ -18,6 +18,7 @@ fn main() -> ExitCode {
 }
 
 fn load(mut words: Words) -> Result<(), Refusal> {
+    look_at_library()?;
     let config = config(&mut words)?;
     let version = words.quic_version()?;
     let folder = words.option("download");

@@ -2,8 +2,8 @@
 
 use gotsavena_interop::budget::{self, Budget};
 use gotsavena_interop::files::Folder;
-use gotsavena_interop::h3::PROTOCOL;
 use gotsavena_interop::h3::server::FileServer;
+use gotsavena_interop::h3::{PROTOCOL, look_at_library};
 use gotsavena_interop::log::say;
 use gotsavena_interop::program::{
     self, Refusal, Words, config, listen_on_all, raise_file_limit, run_all, serving,
@@ -21,6 +21,7 @@ fn main() -> ExitCode {
 }
 
 fn serve(mut words: Words) -> Result<(), Refusal> {
+    look_at_library()?;
     let config = config(&mut words)?;
     let config = serving(config, &mut words)?;
     let identity = words.identity()?;

@@ -94,6 +94,15 @@ pub struct DataReader {
     pub read_data: ReadData,
 }
 
+#[repr(C)]
+pub struct Info {
+    pub age: c_int,
+    pub number: c_int,
+    pub text: *const c_char,
+}
+
+/// 0.8, without the number of its release.
+pub const VERSION: c_int = 0x00_08;
 pub const CALLBACKS_VERSION: c_int = 1;
 pub const SETTINGS_VERSION: c_int = 1;
 pub const DATA_FLAG_EOF: u32 = 1;
@@ -102,6 +111,7 @@ pub const ERR_STREAM_NOT_FOUND: c_int = -114;
 
 #[link(name = "nghttp3")]
 unsafe extern "C" {
+    pub fn nghttp3_version(least: c_int) -> *const Info;
     pub fn nghttp3_mem_default() -> *const Mem;
     pub fn nghttp3_rcbuf_get_buf(buffer: *const RcBuf) -> Bytes;
     pub fn nghttp3_strerror(error: c_int) -> *const c_char;

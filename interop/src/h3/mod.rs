@@ -8,6 +8,8 @@ pub mod session;
 #[cfg(test)]
 mod tests;
 
+use crate::program::Refusal;
+
 /// The name of the protocol (RFC 9114, section 3.1).
 pub const PROTOCOL: &[u8] = b"h3";
 
@@ -17,3 +19,17 @@ pub const INTERNAL_ERROR: u64 = 0x0102;
 pub const CLOSED_CRITICAL_STREAM: u64 = 0x0104;
 pub const REQUEST_REJECTED: u64 = 0x010b;
 pub const REQUEST_CANCELLED: u64 = 0x010c;
+
+/// Refuses a library whose structs may be other ones than those that are declared.
+///
+/// # Errors
+///
+/// Where it isn't nghttp3 0.8.
+pub fn look_at_library() -> Result<(), Refusal> {
+    match session::other_version() {
+        None => Ok(()),
+        Some(other) => Err(Refusal::Failure(format!(
+            "this needs nghttp3 0.8, whose structs are declared by hand: here is {other}"
+        ))),
+    }
+}

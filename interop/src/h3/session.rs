@@ -306,6 +306,16 @@ fn internal(fault: UseFault) -> Close {
     Close::new(INTERNAL_ERROR, &fault.to_string())
 }
 
+/// The library's version, where it isn't that of the declarations.
+pub fn other_version() -> Option<String> {
+    // Sound: the library has one of at least 0, and it is static.
+    let (number, text) = unsafe {
+        let info = &*nghttp3_version(0);
+        (info.number, CStr::from_ptr(info.text))
+    };
+    (number >> 8 != VERSION).then(|| text.to_string_lossy().into_owned())
+}
+
 const SETTINGS: Settings = Settings {
     max_field_section_size: MOST_FIELDS as u64,
     qpack_max_dtable_capacity: 4096,
