@@ -175,7 +175,7 @@ impl Unit {
     fn step(&mut self, step: &Step) -> Option<bool> {
         match step {
             Step::Send(make) => Some(self.send(&self.made(make), self.next)),
-            Step::MayEnd(_) => Some(true),
+            Step::MayEnd(_) | Step::Pause(_) => Some(true),
             Step::Twice(make) => {
                 let (payload, number) = (self.made(make), self.next);
                 Some(self.send(&payload, number) && self.send(&payload, number))

@@ -360,6 +360,8 @@ fn acks() -> Vec<Case> {
             "ack/next",
             vec![
                 plain(vec![1]),
+                // (until it has acknowledged all: it may delay that by 25 ms)
+                Step::Pause(100),
                 of_largest(|largest| frame(ACK, &[largest + 1, 0, 0, 0])),
             ],
         ),
