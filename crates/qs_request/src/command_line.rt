@@ -1,8 +1,12 @@
 //! What the command line asks for.
 
-ghost use Rattle.std.specs.Prelude.{◌≡◌, ◌≤◌, true, IfOk};
-ghost use Rattle.qs_calls.specs.Settings.{are_in_range};
-ghost use Rattle.qs_request.specs.Requests.{IsPlayable};
+ghost use Rattle.std.specs.Prelude.{◌≡◌, ℕ, true, Some, is_some, map, option_map, string_bytes, IfOk, IfErr};
+ghost use Rattle.std.specs.Char.{is_ascii_digit};
+ghost use Rattle.std.specs.List.{list_all};
+ghost use Rattle.clap.specs.Words.{app_of, first_of, found_of, rows_of};
+ghost use Rattle.qs_calls.specs.declared.settings.Settings.{Settings};
+ghost use Rattle.qs_request.specs.declared.command_line.Request.{Request};
+ghost use Rattle.qs_request.specs.Requests.{IsPlayable, IsNumber, IsNumberOr, AreSettings, Asks, AsksFor, MakeSense, RefusesUnless, frames_app, script_app, play_app, random_app, qstream};
 
 use crate::usage::{VERSION, beyond, refusal_of, refused};
 use clap::{Arg, ArgAction, ArgMatches, Command};
@@ -59,7 +63,9 @@ impl<'a> Request<'a> {
     /// What the words ask for, the program's name first. `BadUsage` if they make no sense or ask for help, `NoMemory` if memory was
     /// refused.
     pub fn parse(alloc: Global, words: &'a [String]) -> Result<Request<'a>, Refusal>
-        ensures { IfOk result IsPlayable }
+        ensures asked { IfOk result (AsksFor (map string_bytes words.entry.now)) }
+        ensures playable { IfOk result IsPlayable }
+        ensures refused { IfErr result (RefusesUnless (MakeSense (map string_bytes words.entry.now))) }
     {
         let Ok(command) = command(alloc) else {
             return Err(Refusal::NoMemory);
@@ -77,7 +83,9 @@ impl<'a> Request<'a> {
 
 /// What a subcommand of that name asks for with these arguments.
 fn asked_for<'a>(alloc: Global, name: &str, found: &ArgMatches<'a>) -> Result<Request<'a>, Refusal>
-    ensures { IfOk result IsPlayable }
+    ensures asked { IfOk result (Asks name.now (rows_of (found_of found.now))) }
+    ensures playable { IfOk result IsPlayable }
+    ensures refused { IfErr result (RefusesUnless ((request : Request) × Asks name.now (rows_of (found_of found.now)) request)) }
 {
     match name {
         "frames" => Ok(Request::Frames(word(alloc, found, "HEX")?)),
@@ -94,7 +102,7 @@ fn asked_for<'a>(alloc: Global, name: &str, found: &ArgMatches<'a>) -> Result<Re
             file: word(alloc, found, "FILE")?,
             qlog: found.get_str("OUT"),
         }),
-        _ => {
+        "random" => {
             let seed = word(alloc, found, "SEED")?;
             let n = word(alloc, found, "N")?;
             Ok(Request::Random {
@@ -102,11 +110,15 @@ fn asked_for<'a>(alloc: Global, name: &str, found: &ArgMatches<'a>) -> Result<Re
                 n: number(alloc, "N", n, MAX_EVENTS)? as usize,
             })
         }
+        _ => Err(refused(alloc, "COMMAND", name, "it is none")),
     }
 }
 
 /// The word of an argument that is required.
-fn word<'a>(alloc: Global, found: &ArgMatches<'a>, name: &str) -> Result<&'a str, Refusal> {
+fn word<'a>(alloc: Global, found: &ArgMatches<'a>, name: &str) -> Result<&'a str, Refusal>
+    ensures found { IfOk result (λ word. first_of name.now (rows_of (found_of found.now)) ≡ Some word.now) }
+    ensures refused { IfErr result (RefusesUnless (is_some (first_of name.now (rows_of (found_of found.now))) ≡ true)) }
+{
     match found.get_str(name) {
         Some(word) => Ok(word),
         None => Err(refused(alloc, name, "", "it is missing")),
@@ -116,16 +128,12 @@ fn word<'a>(alloc: Global, found: &ArgMatches<'a>, name: &str) -> Result<&'a str
 /// Those of endpoints that grant so many streams of each direction at first, and so many in all. If these aren't named, 8 at first, and 8
 /// in all or as many as at first.
 fn settings(alloc: Global, grant: Option<&str>, lifetime: Option<&str>) -> Result<Settings, Refusal>
-    ensures { IfOk result (λ settings. are_in_range settings ≡ true) }
+    ensures asked { IfOk result (AreSettings (option_map (λ s. s.now) grant.entry) (option_map (λ s. s.now) lifetime.entry)) }
+    ensures refused { IfErr result (RefusesUnless ((settings : Settings) × AreSettings (option_map (λ s. s.now) grant.entry) (option_map (λ s. s.now) lifetime.entry) settings)) }
 {
-    let first = match grant {
-        Some(word) => number(alloc, "--grant", word, MAX_GRANT)?,
-        None => USUAL_GRANT,
-    };
-    let all = match lifetime {
-        Some(word) => number(alloc, "--lifetime", word, MAX_LIFETIME)?,
-        None => first.max(USUAL_GRANT),
-    };
+    let first = number_or(alloc, "--grant", grant, USUAL_GRANT, MAX_GRANT)?;
+    let usual = first.max(USUAL_GRANT);
+    let all = number_or(alloc, "--lifetime", lifetime, usual, MAX_LIFETIME)?;
     if all < first {
         let word = lifetime.unwrap_or("");
         return Err(beyond(alloc, "--lifetime", word, "at least", first));
@@ -139,11 +147,29 @@ fn settings(alloc: Global, grant: Option<&str>, lifetime: Option<&str>) -> Resul
     })
 }
 
+/// The number of an option, or the usual one where it isn't named.
+fn number_or(
+    alloc: Global,
+    name: &str,
+    word: Option<&str>,
+    usual: u64,
+    most: u64,
+) -> Result<u64, Refusal>
+    ensures number { IfOk result (IsNumberOr usual (option_map (λ s. s.now) word.entry) most) }
+    ensures refused { IfErr result (RefusesUnless ((n : ℕ) × IsNumberOr usual (option_map (λ s. s.now) word.entry) most n)) }
+{
+    match word {
+        Some(word) => number(alloc, name, word, most),
+        None => Ok(usual),
+    }
+}
+
 /// The number that the word spells in decimal digits alone, at most `most`. Leading zeros are allowed, a sign isn't.
 fn number(alloc: Global, name: &str, word: &str, most: u64) -> Result<u64, Refusal>
-    ensures { IfOk result (λ number. number ≤ most) }
+    ensures number { IfOk result (IsNumber word.now most) }
+    ensures refused { IfErr result (RefusesUnless ((n : ℕ) × IsNumber word.now most n)) }
 {
-    if word.is_empty() || !word.bytes().all(|byte| byte.is_ascii_digit()) {
+    if word.is_empty() || !are_digits(word.as_bytes()) {
         return Err(refused(alloc, name, word, "no number"));
     }
     match word.parse() {
@@ -152,18 +178,30 @@ fn number(alloc: Global, name: &str, word: &str, most: u64) -> Result<u64, Refus
     }
 }
 
-fn frames_command<'a>(alloc: Global) -> Result<Command<'a>, AllocError> {
+fn are_digits(word: &[u8]) -> bool
+    ensures { result ≡ list_all is_ascii_digit word.now }
+{
+    word.iter().all(|byte| byte.is_ascii_digit())
+}
+
+fn frames_command<'a>(alloc: Global) -> Result<Command<'a>, AllocError>
+    ensures { IfOk result (λ made. app_of made ≡ frames_app) }
+{
     Command::new(alloc, "frames").arg(Arg::new(alloc, "HEX").required(true))
 }
 
 /// A subcommand that plays the script in a file.
-fn script_command<'a>(alloc: Global, name: &'a str) -> Result<Command<'a>, AllocError> {
+fn script_command<'a>(alloc: Global, name: &'a str) -> Result<Command<'a>, AllocError>
+    ensures { IfOk result (λ made. app_of made ≡ script_app name.entry.now) }
+{
     Command::new(alloc, name)
         .arg(Arg::new(alloc, "FILE").required(true))?
         .arg(Arg::new(alloc, "OUT").long("qlog"))
 }
 
-fn play_command<'a>(alloc: Global) -> Result<Command<'a>, AllocError> {
+fn play_command<'a>(alloc: Global) -> Result<Command<'a>, AllocError>
+    ensures { IfOk result (λ made. app_of made ≡ play_app) }
+{
     script_command(alloc, "play")?
         .arg(Arg::new(alloc, "G").long("grant"))?
         .arg(Arg::new(alloc, "L").long("lifetime"))?
@@ -174,13 +212,17 @@ fn play_command<'a>(alloc: Global) -> Result<Command<'a>, AllocError> {
         )
 }
 
-fn random_command<'a>(alloc: Global) -> Result<Command<'a>, AllocError> {
+fn random_command<'a>(alloc: Global) -> Result<Command<'a>, AllocError>
+    ensures { IfOk result (λ made. app_of made ≡ random_app) }
+{
     Command::new(alloc, "random")
         .arg(Arg::new(alloc, "SEED").required(true))?
         .arg(Arg::new(alloc, "N").required(true))
 }
 
-fn command<'a>(alloc: Global) -> Result<Command<'a>, AllocError> {
+fn command<'a>(alloc: Global) -> Result<Command<'a>, AllocError>
+    ensures { IfOk result (λ made. app_of made ≡ qstream) }
+{
     Command::new(alloc, "qstream")
         .version(VERSION)
         .subcommand_required(true)

@@ -2,6 +2,7 @@
 #![tactic(auto)]
 
 mod command_line;
+pub mod laws;
 mod usage;
 
 pub use command_line::{Refusal, Request};

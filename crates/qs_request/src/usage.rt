@@ -1,6 +1,11 @@
 //! What is told of words that ask for nothing: the usage, or the word and what is wrong with it. ./qstream prints the usage from this
 //! file if no program stands.
 
+ghost use Rattle.std.specs.Prelude.{◌≡◌};
+ghost use Rattle.clap.specs.Words.{kind_of};
+ghost use Rattle.clap.specs.declared.error.kind.ErrorKind.TheVariants.{OutOfMemory};
+ghost use Rattle.qs_request.specs.declared.command_line.Refusal.TheVariants.{NoMemory};
+
 use crate::command_line::Refusal;
 use clap::Error;
 use clap::error::ErrorKind;
@@ -53,7 +58,9 @@ writes a script of random events, as play reads it
   N       how many: 0 to 10000";
 
 /// What is told of words that clap refused: the usage if they ask for help or for nothing, else what clap says.
-pub(crate) fn refusal_of(alloc: Global, error: &Error, words: &[String]) -> Refusal {
+pub(crate) fn refusal_of(alloc: Global, error: &Error, words: &[String]) -> Refusal
+    ensures { kind_of error.now ≡ OutOfMemory → result ≡ NoMemory }
+{
     let told = match error.kind() {
         ErrorKind::OutOfMemory => return Refusal::NoMemory,
         ErrorKind::DisplayHelp | ErrorKind::DisplayVersion | ErrorKind::MissingSubcommand => {

@@ -89,7 +89,7 @@ fn asked_for<'a>(alloc: Global, name: &str, found: &ArgMatches<'a>) -> Result<Re
             file: word(alloc, found, "FILE")?,
             qlog: found.get_str("OUT"),
         }),
-        _ => {
+        "random" => {
             let seed = word(alloc, found, "SEED")?;
             let n = word(alloc, found, "N")?;
             Ok(Request::Random {
@@ -97,6 +97,7 @@ fn asked_for<'a>(alloc: Global, name: &str, found: &ArgMatches<'a>) -> Result<Re
                 n: number(alloc, "N", n, MAX_EVENTS)? as usize,
             })
         }
+        _ => Err(refused(alloc, "COMMAND", name, "it is none")),
     }
 }
 
@@ -111,14 +112,9 @@ fn word<'a>(alloc: Global, found: &ArgMatches<'a>, name: &str) -> Result<&'a str
 /// Those of endpoints that grant so many streams of each direction at first, and so many in all. If these aren't named, 8 at first, and 8
 /// in all or as many as at first.
 fn settings(alloc: Global, grant: Option<&str>, lifetime: Option<&str>) -> Result<Settings, Refusal> {
-    let first = match grant {
-        Some(word) => number(alloc, "--grant", word, MAX_GRANT)?,
-        None => USUAL_GRANT,
-    };
-    let all = match lifetime {
-        Some(word) => number(alloc, "--lifetime", word, MAX_LIFETIME)?,
-        None => first.max(USUAL_GRANT),
-    };
+    let first = number_or(alloc, "--grant", grant, USUAL_GRANT, MAX_GRANT)?;
+    let usual = first.max(USUAL_GRANT);
+    let all = number_or(alloc, "--lifetime", lifetime, usual, MAX_LIFETIME)?;
     if all < first {
         let word = lifetime.unwrap_or("");
         return Err(beyond(alloc, "--lifetime", word, "at least", first));
@@ -132,15 +128,33 @@ fn settings(alloc: Global, grant: Option<&str>, lifetime: Option<&str>) -> Resul
     })
 }
 
+/// The number of an option, or the usual one where it isn't named.
+fn number_or(
+    alloc: Global,
+    name: &str,
+    word: Option<&str>,
+    usual: u64,
+    most: u64,
+) -> Result<u64, Refusal> {
+    match word {
+        Some(word) => number(alloc, name, word, most),
+        None => Ok(usual),
+    }
+}
+
 /// The number that the word spells in decimal digits alone, at most `most`. Leading zeros are allowed, a sign isn't.
 fn number(alloc: Global, name: &str, word: &str, most: u64) -> Result<u64, Refusal> {
-    if word.is_empty() || !word.bytes().all(|byte| byte.is_ascii_digit()) {
+    if word.is_empty() || !are_digits(word.as_bytes()) {
         return Err(refused(alloc, name, word, "no number"));
     }
     match word.parse() {
         Ok(number) if number <= most => Ok(number),
         _ => Err(beyond(alloc, name, word, "at most", most)),
     }
+}
+
+fn are_digits(word: &[u8]) -> bool {
+    word.iter().all(|byte| byte.is_ascii_digit())
 }
 
 fn frames_command<'a>(alloc: Global) -> Result<Command<'a>, AllocError> {

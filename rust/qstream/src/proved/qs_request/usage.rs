@@ -3,6 +3,7 @@
 //! file if no program stands.
 
 use crate::shim::{String, format};
+
 use crate::proved::qs_request::command_line::Refusal;
 use crate::shim::clap::Error;
 use crate::shim::clap::error::ErrorKind;
