@@ -53,11 +53,15 @@ impl Queue {
 
     pub fn say(&self, line: String) {
         let mut waiting = self.lock();
+        // (each word to the thread is a call of the kernel)
+        let sleeps = waiting.lines.is_empty() && !waiting.is_writing;
         waiting.tell_lost();
         if waiting.lost > 0 || waiting.lines.len() >= MOST {
             waiting.lost += 1;
         } else {
             waiting.lines.push_back(line + "\n");
+        }
+        if sleeps {
             self.changed.notify_all();
         }
     }
@@ -75,7 +79,9 @@ impl Queue {
         let mut waiting = self.lock();
         loop {
             waiting.is_writing = false;
-            self.changed.notify_all();
+            if waiting.lines.is_empty() {
+                self.changed.notify_all();
+            }
             let is_empty = |waiting: &mut Waiting| waiting.lines.is_empty();
             let woken = self.changed.wait_while(waiting, is_empty);
             waiting = woken.unwrap_or_else(PoisonError::into_inner);

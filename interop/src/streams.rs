@@ -128,14 +128,15 @@ impl Body {
         }
     }
 
+    /// Reads into a vector that was used before, or none: its bytes needn't be made zero again.
     ///
     /// # Errors
     ///
     /// Of the source, which may have become shorter than it was.
-    pub fn next_piece(&mut self) -> io::Result<Vec<u8>> {
+    pub fn next_piece(&mut self, mut piece: Vec<u8>) -> io::Result<Vec<u8>> {
         match &mut self.source {
             Source::Bytes(source) => {
-                let mut piece = vec![0; self.left.min(PIECE) as usize];
+                piece.resize(self.left.min(PIECE) as usize, 0);
                 source.read_exact(&mut piece)?;
                 self.left -= piece.len() as u64;
                 Ok(piece)
@@ -196,7 +197,8 @@ impl Outgoing {
             } else if self.body.is_over() {
                 return end.finish(stream).map(|()| true);
             } else {
-                let Ok(piece) = self.body.next_piece() else {
+                let used = std::mem::take(&mut self.piece);
+                let Ok(piece) = self.body.next_piece(used) else {
                     return abandon(end, stream, code).map(|()| true);
                 };
                 (self.piece, self.written) = (piece, 0);

@@ -29,7 +29,7 @@ pub enum Event {
     GoAway(StreamId),
 }
 
-const TURN: usize = 1 << 16;
+const TURN: usize = 1 << 14;
 
 /// How much may wait to be sent: more than goes at once.
 const MOST_UNSENT: u64 = 1 << 17;
@@ -49,6 +49,8 @@ const FIELD_COST: usize = 32;
 struct Outgoing {
     body: Body,
     pieces: VecDeque<Vec<u8>>,
+    /// A piece that went.
+    used: Vec<u8>,
     written: usize,
     is_whole: bool,
 }
@@ -197,6 +199,7 @@ impl Outgoing {
         Outgoing {
             body,
             pieces: VecDeque::new(),
+            used: Vec::new(),
             written: 0,
             is_whole,
         }
@@ -210,6 +213,7 @@ impl Outgoing {
                 break;
             }
             self.written -= first.len();
+            self.used = first;
         }
     }
 }
@@ -229,7 +233,8 @@ extern "C" fn read_data(
         return ERR_WOULDBLOCK;
     };
     shared.made += usize::from(outgoing.body.is_made());
-    let Ok(piece) = outgoing.body.next_piece() else {
+    let used = std::mem::take(&mut outgoing.used);
+    let Ok(piece) = outgoing.body.next_piece(used) else {
         shared.failed.push(stream);
         return ERR_WOULDBLOCK;
     };
