@@ -259,9 +259,8 @@ impl Run {
         let any = self.random.below(self.packets[side].len().max(1) as u64) as usize;
         let place = first.filter(|_| self.random.chance(50)).unwrap_or(any);
         let packet = self.packets[side].get(place);
-        let is_told = |packet: &&Packet| {
-            packet.has_landed() && (packet.is_late || self.by != By::Payloads)
-        };
+        let is_told =
+            |packet: &&Packet| packet.has_landed() && (packet.is_late || self.by != By::Payloads);
         if let Some(packet) = packet.filter(is_told) {
             assert_eq!(self.ends[side].acked(packet.token), Ok(()));
         }
