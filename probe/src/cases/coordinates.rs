@@ -141,7 +141,8 @@ impl Place {
                     send(move |context| frame(RESET_STREAM, &[stream(context), CODE, SIZE]));
                 vec![reset, Step::MayEnd(Box::new(stream))]
             }
-            (_, State::Over) => vec![Step::Over(Box::new(stream), SIZE)],
+            // (a server may put the stream away in a thread of its own, a moment later)
+            (_, State::Over) => vec![Step::Over(Box::new(stream), SIZE), Step::Pause(30)],
             _ => Vec::new(),
         }
     }
