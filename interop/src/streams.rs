@@ -75,19 +75,21 @@ pub fn abandon(end: &mut Endpoint, stream: StreamId, code: u64) -> Result<(), Us
     }
 }
 
-/// Writes what the peer grants, and one byte more. That one waits, so that the peer is told what holds the stream back (RFC 9000, section
-/// 4.1). The rest stays where it is, so that an answer which no one reads keeps little, and one that is read isn't held up by those.
+/// Writes what the peer grants, and where that is nothing one byte, which waits, so that the peer is told what holds the stream back (RFC
+/// 9000, section 4.1): once all before it was acknowledged, since the buffer of a stream goes back only when it is empty. The rest stays
+/// where it is, so that an answer which no one reads keeps little, and one that is read isn't held up by those.
 pub fn write_granted(
     end: &mut Endpoint,
     stream: StreamId,
     bytes: &[u8],
 ) -> Result<usize, UseFault> {
     let send = end.report(stream).and_then(|report| report.send);
+    let written = send.as_ref().map_or(0, |send| send.written);
     let left = send.map_or(0, |send| send.limit.saturating_sub(send.written));
     let granted = left.min(end.credit_left().saturating_sub(end.unsent_sum()));
     let most = match granted {
-        0 => u64::from(end.unsent(stream) == 0),
-        granted => granted + 1,
+        0 => u64::from(end.acked_below(stream) == Some(written)),
+        granted => granted,
     };
     end.write(stream, &bytes[..bytes.len().min(most as usize)])
 }
@@ -210,7 +212,7 @@ impl Outgoing {
 #[cfg(test)]
 mod tests {
     use super::*;
-    use gotsavena::{Dir, Frame, PeerLimits, Role, Settings, frames};
+    use gotsavena::{Dir, Fill, Frame, PeerLimits, Role, Settings, frames};
 
     // What is said of limits as an answer of 20 bytes goes, and how many bytes of it are kept.
     fn blocked(limits: PeerLimits) -> (Vec<String>, u64) {
@@ -220,10 +222,11 @@ mod tests {
         let (mut told, mut out) = (Vec::new(), [0; 1200]);
         for _ in 0..3 {
             assert_eq!(outgoing.write(&mut end, stream, 9), Ok(false));
-            while let Some(made) = end.make_packet(&mut out).unwrap() {
-                let all = frames(&out[..made.len]).flatten();
+            while let Some(filled) = end.fill(&mut out, &Fill::all()).unwrap() {
+                let all = frames(&out[..filled.len]).flatten();
                 let others = all.filter(|placed| !matches!(placed.frame, Frame::Stream { .. }));
                 told.extend(others.map(|placed| format!("{:?}", placed.frame)));
+                end.acked(filled.token).unwrap();
             }
         }
         (told, end.unsent_sum())
