@@ -503,7 +503,7 @@ mod tests {
 
     impl<S: Application> World<S> {
         fn of(make: impl Fn(SocketAddr) -> S + 'static) -> World<S> {
-            // One file at a time.
+            // Files come one at a time, so that a client of many is at work as long as a test needs it to be. No test asks for 1,000.
             let settings = Settings::small().bidi_streams(1, 1000);
             let config = Config {
                 settings,

@@ -247,7 +247,8 @@ fn a_window_that_grows_uses_up_a_long_fat_path() {
 
 #[test]
 fn a_narrow_window_that_stays_takes_long() {
-    // Of 256 KiB a round trip brings half, by default, and seven eighths where limits move by eighths.
+    // Of 256 KiB a round trip of 100 ms brings half, by default, and seven eighths where limits move by eighths: for 32 MiB 256 of them, or 147,
+    // less a few, since the packet with which a limit moves goes past its share.
     for (step, seconds) in [(Share::Half, 25.4), (Share::Eighth, 14.4)] {
         let took = transfer(1 << 18, step) as f64 / 1e9;
         assert!((took - seconds).abs() < 0.05, "{took} seconds");

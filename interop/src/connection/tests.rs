@@ -94,7 +94,7 @@ impl World {
                 if place == 1 && to != self.from {
                     continue;
                 }
-                // xorshift64*
+                // xorshift64*, whose upper half is the better one: a run is the same each time.
                 self.random ^= self.random >> 12;
                 self.random ^= self.random << 25;
                 self.random ^= self.random >> 27;
@@ -518,7 +518,7 @@ fn gaps_of_many_open_streams_do_not_close() {
 #[test]
 fn answers_that_are_not_read_do_not_close() {
     let mut world = World::with(small().uni_streams(0, 0).bidi_streams(MANY, MANY));
-    // The server grants many streams, and the client none.
+    // The client grants no streams: those that it opened alone have to make room for the runs of their answers.
     world.end(0).windows = Windows::new(Role::Client, small().streams(0, 0).limits(), 0, world.now);
     world.connect();
     let client = world.end(0).end().unwrap();

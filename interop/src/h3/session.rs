@@ -397,6 +397,7 @@ impl Session {
         check(unsafe { nghttp3_conn_bind_control_stream(self.conn, control) })?;
         check(unsafe { nghttp3_conn_bind_qpack_streams(self.conn, encoder, decoder) })?;
         if role == Role::Server {
+            // (all that there can be: how many are open at a time is the endpoint's to say)
             unsafe { nghttp3_conn_set_max_client_streams_bidi(self.conn, 1 << 60) };
         }
         Ok(())

@@ -116,7 +116,7 @@ fn make(
 ) -> Result<(), String> {
     let source = Path::new(sources.folder).join(krate).join("src");
     let mut laws_alone = false;
-    // In their order by name, in which `laws` comes before `lib`.
+    // By name, so that `laws` comes first: where it has laws alone, and so is left out, `lib` loses the line that names it.
     for path in files(&top.join(&source), sources.kind)? {
         let inner = path
             .strip_prefix(top.join(&source))
