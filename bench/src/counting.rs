@@ -14,9 +14,10 @@ pub fn counted_late(work: &mut dyn FnMut()) {
     gotsavena_counted(work);
 }
 
-// CALLGRIND_START_INSTRUMENTATION of valgrind's header. Without valgrind it does nothing.
+/// From here on callgrind looks at what is done, if it was told to begin late. It is CALLGRIND_START_INSTRUMENTATION of valgrind's header, which
+/// does nothing without valgrind.
 #[cfg(target_arch = "x86_64")]
-fn look_from_here() {
+pub fn look_from_here() {
     let request: [u64; 6] = [0x4354_0004, 0, 0, 0, 0, 0];
     // SAFETY: four rotations by 128 bits in all leave rdi as it was, and the exchange of a register with itself changes nothing. valgrind
     // reads the request, and writes its answer to rdx.
@@ -35,4 +36,4 @@ fn look_from_here() {
 }
 
 #[cfg(not(target_arch = "x86_64"))]
-fn look_from_here() {}
+pub fn look_from_here() {}

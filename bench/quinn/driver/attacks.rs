@@ -18,7 +18,7 @@ mod play;
 mod streams;
 mod table;
 
-pub use counting::{counted_late, gotsavena_counted};
+pub use counting::{counted_late, gotsavena_counted, look_from_here};
 use faults::minor_faults;
 use play::{Attack, Setup, Target};
 

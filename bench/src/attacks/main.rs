@@ -18,7 +18,7 @@ mod streams;
 mod table;
 
 use clock::time;
-use counting::gotsavena_counted;
+use counting::{gotsavena_counted, look_from_here};
 use faults::minor_faults;
 use play::Attack;
 use std::process::ExitCode;
