@@ -236,6 +236,9 @@ if has cmake 'a program by CMake'; then
   }
   try 'a program by CMake, of what make installed' by_cmake found "-DCMAKE_PREFIX_PATH=$usr"
   if [ "$kind" = erased ]; then
+    # (what cargo built for make is what it would build here)
+    mkdir -p "$room/beneath/gotsavena/made/$kind"
+    cp -a "$libs/cargo" "$room/beneath/gotsavena/made/$kind/"
     try 'a program by CMake, of the sources' by_cmake beneath "-DGOTSAVENA_SOURCE=$root/c"
     try 'install by CMake' cmake --install "$room/beneath" --prefix "$room/by-cmake"
     try 'a program by CMake, of what CMake installed' by_cmake again "-DCMAKE_PREFIX_PATH=$room/by-cmake"
