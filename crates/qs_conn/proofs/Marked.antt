@@ -6,7 +6,7 @@ use Rattle.std.proofs.Common.{if◌then◌else◌, ◌≡◌, ℕ, zero, suc, �
 use Rattle.std.specs.List.{range_with_len}
 use Rattle.std.specs.Option.{IfSome, option_eq}
 use Rattle.std.proofs.lemmas.Bool.{cases_lt, both_ways, cases_eq, and_parts, not-true, true≢false, eqb-false, eq-eqb}
-use Rattle.std.proofs.lemmas.List.{length-append, length-replicate, get_or_past, set-get_or, length-set, length-take, get_or-set_same, get_or-set_other, get_or-take, get_or_read, take_all, append-nil, ext_get_or, length-map, get_or-map, map-append, map-set, take-map}
+use Rattle.std.proofs.lemmas.List.{length-append, length-replicate, get_or_past, set-get_or, length-set, length-take, get_or-set_same, get_or-set_other, get_or-take, get_or_read, take_all, take-append-le, append-nil, ext_get_or, length-map, get_or-map, map-append, map-set, take-map}
 use Rattle.std.proofs.lemmas.Option.{none-some, same_Some, get_or_from_slice_get, unwrap_or-slice_get, slice_get_within}
 use Rattle.std.specs.Result.{OnOk, OnErr}
 use Rattle.qs_conn.specs.Marks.{IsClear as IsUntoldClear}
@@ -342,6 +342,38 @@ module _ (ws now : List ℕ) (count to n len : ℕ) (are : AreFlags ws count) (m
   pub flags_grown : to < 2 ^ 64 → to ≤ 64 * n → 64 * n ≤ to + 64 → AreFlags now to
   flags_grown fits room tight = grind (arith, common_steps, length-append, replicate, length-take, length-replicate)
 
+-- words are taken away that have no flag
+module _ (ws now : List ℕ) (count to n : ℕ) (are : AreFlags ws count) (fewer : to < count) (clear : AreUnmarkedFrom (flags ws count) to) (room : to ≤ 64 * n) (tight : 64 * n ≤ to + 64) (is : now ≡ take n ws) where
+  words_left : length now ≡ min n (length ws)
+  words_left = ap length is ∙ length-take n ws
+
+  unset_from : (i : ℕ) → to ≤ i → flag ws i ≡ false
+  unset_from i ge = sym (marked_is ws count i are) ∙ clear i ge
+
+  flag_closed : (i : ℕ) → flag now i ≡ flag ws i
+  flag_closed i = elim (cases_lt (i / 64) n) [
+    | inl lt ↦ flag_of now ws i (ap (λ w. bit_at w (i % 64)) (ap (λ vs. get_or vs (i / 64) 0) is ∙ get_or-take n ws (i / 64) 0 lt))
+    | inr ge ↦ flag_past now i (omega (arith, ge, words_left)) ∙ sym (unset_from i (omega (arith, ge, room)))
+  ]
+
+  pub flags_closed : flags now to ≡ take to (flags ws count)
+  flags_closed =
+      flags_are now to (take to (flags ws count)) (omega (arith, fewer, flags_len ws count, length-take to (flags ws count)))
+      (λ i lt. get_or-take to (flags ws count) i false lt ∙ marked_is ws count i are ∙ sym (flag_closed i))
+
+  pub flags_fewer : AreFlags now to
+  flags_fewer =
+      record {
+        room = omega (arith, words_left, fewer, room, are.room);
+        tight = omega (arith, words_left, tight);
+        fits = omega (arith, fewer, are.fits);
+        unset = λ i ge. flag_closed i ∙ unset_from i ge;
+      }
+
+-- nothing is taken away
+pub none_closed : (ws : List ℕ) (count to : ℕ) (marks : List Bool) → flags ws count ≡ marks → count ≤ to → marks ≡ take to marks
+none_closed ws count to marks is le = sym (take_all to marks (omega (arith, le, ap length is, flags_len ws count)))
+
 -- a bit is set or cleared
 module _ (ws : List ℕ) (count index before after : ℕ) (is_set : Bool) (are : AreFlags ws count) (there : index < count) (read : before ≡ get_or ws (index / 64) before) (bit : HasBit before (index % 64) is_set after) where
   word_in : index / 64 < length ws
@@ -555,6 +587,43 @@ next_open r marks now n first ok err next = grind (arith, nat_tests, padded)
 module _ (marks words marks_now words_now : List Bool) (i : ℕ) (b has : Bool) (are : AreSummed marks words) (there : i < length marks) (is : marks_now ≡ set marks i b) (looked : has ≡ false → HasNoMark marks_now (i / 64)) (flags : words_now ≡ set words (i / 64) has) where
   pub summed_set : AreSummed marks_now words_now
   summed_set = grind (arith, common_steps, length-set, cases_lt)
+
+-- indexes are taken away that have no mark
+module _ (marks now : List Bool) (to : ℕ) (clear : AreUnmarkedFrom marks to) (is : now ≡ take to marks) where
+  marks_left : length now ≡ min to (length marks)
+  marks_left = ap length is ∙ length-take to marks
+
+  mark_taken : (i : ℕ) → is_marked now i ≡ is_marked marks i
+  mark_taken i = elim (cases_lt i to) [
+    | inl lt ↦ ap (λ ms. is_marked ms i) is ∙ get_or-take to marks i false lt
+    | inr ge ↦ mark_past now i (omega (arith, ge, marks_left)) ∙ sym (clear i ge)
+  ]
+
+  pub summed_taken : (words : List Bool) → AreSummed marks words → AreSummed now words
+  summed_taken words are = record { room = omega (arith, marks_left, are.room); none = λ word free i at. mark_taken i ∙ are.none word free i at }
+
+  pub unmarked_taken : (past : ℕ) → AreUnmarkedFrom marks past → AreUnmarkedFrom now past
+  unmarked_taken past from i ge = mark_taken i ∙ from i ge
+
+  pub next_taken : (first : Option ℕ) → IsNextMark marks 0 first → IsNextMark now 0 first
+  next_taken first next = record {
+    found = λ n at. (let f = next.found n at in (f.0, mark_taken n ∙ f.1));
+    unmarked = λ i ge before. mark_taken i ∙ next.unmarked i ge before;
+  }
+
+  pub short_taken : length marks ≤ 2 ^ 60 → length now ≤ 2 ^ 60
+  short_taken few = omega (arith, marks_left, few)
+
+  pub full_taken : (full : List Bool) → AreFull marks full → AreFull now full
+  full_taken full are = record { room = omega (arith, marks_left, are.room); all = λ word whole i at. mark_taken i ∙ are.all word whole i at }
+
+-- what was opened has no mark, and may be taken away again
+module _ (old mid : List Bool) (n : ℕ) (is : mid ≡ old ++ replicate n false) where
+  pub opened_clear : AreUnmarkedFrom mid (length old)
+  opened_clear i ge = ap (λ ms. is_marked ms i) is ∙ padded old n i false ∙ mark_past old i ge
+
+  pub closed_back : (new : List Bool) (count : ℕ) → count ≡ length old → new ≡ take count mid → new ≡ old
+  closed_back new count len taken = taken ∙ ap (λ k. take k mid) len ∙ ap (take (length old)) is ∙ take-append-le (length old) old (replicate n false) (omega arith) ∙ take_all (length old) old (omega arith)
 
 -- ---- Words of which each index is marked: one changes, or more are opened.
 

@@ -1,7 +1,7 @@
 //! Flags of indexes, as bits of words.
-ghost use Rattle.std.specs.Prelude.{◌≡◌, ◌++◌, ◌*◌, ◌-◌, ◌<◌, ◌≤◌, ◌==◌, ◌^◌, [], List, Bool, false, length, slice_set, replicate, OnOk, OnErr};
+ghost use Rattle.std.specs.Prelude.{◌≡◌, ◌++◌, ◌*◌, ◌-◌, ◌<◌, ◌≤◌, ◌==◌, ◌^◌, [], List, Bool, false, length, slice_set, replicate, take, OnOk, OnErr};
 ghost use Rattle.std.specs.Int.{bit_at};
-ghost use Rattle.qs_conn.specs.Marks.{is_marked, both, untold};
+ghost use Rattle.qs_conn.specs.Marks.{is_marked, both, untold, AreUnmarkedFrom};
 ghost use Rattle.qs_conn.specs.Words.{IsWordOf};
 
 use qs_ranges::{NoMemory, with_bit};
@@ -88,6 +88,17 @@ impl Bits {
                 Ok(())
             }
             Err(_refused) => Err(NoMemory),
+        }
+    }
+
+    /// Takes away the flags from an index on, none of which is set.
+    pub(crate) fn close_to(&mut self, count: usize)
+        requires { AreUnmarkedFrom self.old count }
+        ensures { self.new ≡ take count self.old }
+    {
+        if count < self.count {
+            self.words.truncate(count.div_ceil(FLAGS_PER_WORD));
+            self.count = count;
         }
     }
 

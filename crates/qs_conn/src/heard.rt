@@ -83,7 +83,7 @@ impl Heard {
     ///
     /// `NoMemory` if there was no memory to note it; then nothing changed, and it comes again. It takes memory if no mark was made yet for
     /// its stream, or a higher one of its type, among those of its kind: never for `Opened`, `Writable`, `Available` and the kinds behind
-    /// it.
+    /// it. `Finished` and `ResetAcked` make one among those of `Stopped` too.
     #[tactic(auto, using(crate::proofs::Hearing::first_is_next, crate::proofs::Hearing::refused_next))]
     pub fn next_news(&mut self, end: &Endpoint) -> Result<Option<News>, NoMemory>
         ensures { IsNextNews end.now self.old result self.new }
@@ -222,8 +222,9 @@ impl Heard {
             Some(News::Readable(stream)) => return self.readable.tell(stream),
             Some(News::Writable(stream)) => self.short.forget(stream),
             Some(News::Stopped(stream, _code)) => return self.stopped.tell(stream),
-            Some(News::Finished(stream)) => return self.sent.tell(stream),
-            Some(News::ResetAcked(stream)) => return self.sent.tell(stream),
+            // A half that came to its end takes no stop any more: with a mark of it a word of marks becomes full, and searches pass it.
+            Some(News::Finished(stream)) => return self.sent.tell_both(&mut self.stopped, stream),
+            Some(News::ResetAcked(stream)) => return self.sent.tell_both(&mut self.stopped, stream),
             Some(News::Ended(stream)) => return self.ended.tell(stream),
             Some(News::Available(dir)) => self.wanted.set(dir, false),
             Some(News::DataBlocked) => self.blocked.set_conn(false),

@@ -1,5 +1,5 @@
 //! Which streams of one type may have something to send or to tell.
-ghost use Rattle.std.specs.Prelude.{List, Bool, None, ◌≡◌, ◌++◌, ◌+◌, ◌*◌, ◌-◌, ◌<◌, ◌≤◌, ◌^◌, ℕ, [], true, false, Some, length, slice_set, option_map, replicate, IfSome, OnOk, OnErr};
+ghost use Rattle.std.specs.Prelude.{List, Bool, None, ◌≡◌, ◌++◌, ◌+◌, ◌*◌, ◌-◌, ◌<◌, ◌≤◌, ◌^◌, ℕ, [], true, false, Some, length, slice_set, option_map, replicate, take, IfSome, OnOk, OnErr};
 ghost use Rattle.qs_machine.specs.News.{IsLeast};
 ghost use Rattle.qs_conn.specs.Marks.{IsClear, is_marked, HasRoom, IsClearedFrom, IsWider, IsNextMark, IsMarkedOf, AreSummed, AreUnmarkedFrom, both, untold};
 ghost use Rattle.qs_streams.specs.Flags.{least_of};
@@ -87,6 +87,14 @@ impl Marks {
         // More words than there are marks for sum up the same marks.
         self.words.open_to(count.div_ceil(FLAGS_PER_WORD))?;
         self.marks.open_to(count)
+    }
+
+    /// Takes away the indexes from one on, none of which is marked.
+    pub(crate) fn close_to(&mut self, count: usize)
+        requires { AreUnmarkedFrom self.old count }
+        ensures { self.new ≡ take count self.old }
+    {
+        self.marks.close_to(count);
     }
 
     /// Makes room for an index, where all below it have room. It comes in blocks, so that mostly it is there.

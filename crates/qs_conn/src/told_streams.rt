@@ -1,8 +1,8 @@
 //! Which streams were reported to the application.
-ghost use Rattle.std.specs.Prelude.{◌≡◌, ◌<◌, ℕ, Bool, false, None, Some, OnOk, OnErr, ◌++◌, ◌+◌, ◌-◌, ◌/◌, ◌≤◌, ◌^◌, [], true, length, slice_get, slice_set, replicate};
+ghost use Rattle.std.specs.Prelude.{◌≡◌, ◌<◌, ℕ, Bool, false, None, Some, OnOk, OnErr, ◌⊎◌, ◌++◌, ◌+◌, ◌-◌, ◌/◌, ◌≤◌, ◌^◌, [], true, length, slice_get, slice_set, replicate, take};
 ghost use Rattle.qs_machine.specs.Tables.{no_streams, table, lookup};
 ghost use Rattle.qs_machine.specs.Heard.{is_told, IsToldBeside, IsForgotten};
-ghost use Rattle.qs_conn.specs.Marks.{IsClear, is_marked, IsMarkedBeside, IsUnmarkedBeside, AreFull, AreMarkedBelow};
+ghost use Rattle.qs_conn.specs.Marks.{IsClear, is_marked, IsMarkedBeside, IsUnmarkedBeside, AreFull, AreMarkedBelow, AreUnmarkedFrom};
 
 use crate::bits::{Bits, FLAGS_PER_WORD, Row};
 use crate::marks::Marks;
@@ -66,6 +66,23 @@ impl ToldStreams {
     {
         let marks = &mut self.types[type_of(stream)];
         marks.tell(index_of(stream))
+    }
+
+    /// The same here and among others, or nowhere.
+    #[tactic(auto, using(qs_machine::proofs::TableEdits::lookup_is, qs_machine::proofs::TableEdits::on_ok, crate::proofs::Outboxes::on_error, crate::proofs::Marked::told_beside))]
+    pub(crate) fn tell_both(
+        &mut self,
+        others: &mut ToldStreams,
+        stream: StreamId,
+    ) -> Result<(), NoMemory>
+        ensures here { OnOk result (IsToldBeside stream self.old self.new) }
+        ensures there { OnOk result (IsToldBeside stream others.old others.new) }
+        ensures err { OnErr result ((self.new ≡ self.old) × (others.new ≡ others.old)) }
+        ensures asks { OnErr result ((lookup self.old stream ≡ None) ⊎ (lookup others.old stream ≡ None)) }
+    {
+        let marks = &mut self.types[type_of(stream)];
+        let beside = &mut others.types[type_of(stream)];
+        marks.tell_both(beside, index_of(stream))
     }
 
     #[tactic(auto, using(qs_machine::proofs::TableEdits::updated_is))]
@@ -163,6 +180,14 @@ impl ToldMarks {
         self.marks.open_to(count)
     }
 
+    // Takes away what `open_to` gave.
+    fn close_to(&mut self, count: usize)
+        requires { AreUnmarkedFrom self.old count }
+        ensures { self.new ≡ take count self.old }
+    {
+        self.marks.close_to(count);
+    }
+
     #[tactic(auto, using(crate::proofs::Marked::full_here, crate::proofs::Marked::full_less, crate::proofs::Marked::full_more, crate::proofs::Marked::below_more, crate::proofs::Marked::below_next))]
     pub(crate) fn set(&mut self, index: usize, is_marked: bool)
         requires { index < length self.old }
@@ -201,6 +226,25 @@ impl ToldMarks {
     {
         self.open_to(index + 1)?;
         self.set(index, true);
+        Ok(())
+    }
+
+    /// The same here and among others, or nowhere.
+    #[tactic(auto, using(crate::proofs::Marked::marked_beside, crate::proofs::Marked::opened_clear, crate::proofs::Marked::closed_back))]
+    pub(crate) fn tell_both(&mut self, others: &mut ToldMarks, index: usize) -> Result<(), NoMemory>
+        requires { index < 2 ^ 60 }
+        ensures here { OnOk result (IsMarkedBeside index self.old self.new) }
+        ensures there { OnOk result (IsMarkedBeside index others.old others.new) }
+        ensures err { OnErr result ((self.new ≡ self.old) × (others.new ≡ others.old)) }
+        ensures asks { OnErr result ((slice_get self.old index ≡ None) ⊎ (slice_get others.old index ≡ None)) }
+    {
+        let count = others.len();
+        others.open_to(index + 1)?;
+        if let Err(refused) = self.tell(index) {
+            others.close_to(count);
+            return Err(refused);
+        }
+        others.set(index, true);
         Ok(())
     }
 

@@ -41,7 +41,7 @@ use Rattle.qs_ranges.specs.declared.NoMemory.{NoMemory}
 use Rattle.qs_calls.specs.declared.news.News.{News}
 use Rattle.qs_calls.specs.declared.news.News.TheVariants.{Opened, Readable}
 use Rattle.qs_machine.specs.Heard.{Hearing, heard_nothing, IsNews, ComesBefore, IsFirstNews, TakesMemory, is_told}
-use Rattle.qs_machine.specs.ExclusionsHeard.{heard_one, reset_came, NoNews, NotFirst, NotRefused, NotNoted, NotHeard}
+use Rattle.qs_machine.specs.ExclusionsHeard.{heard_one, reset_came, NoNews, NotFirst, NotRefused, NotTaken, NotNoted, NotHeard}
 use Rattle.std.proofs.Math.Bool.{and-false}
 
 -- Which answers an end's owner isn't given, and what its calls don't leave.
@@ -344,6 +344,10 @@ noted_of_heard : NotNoted
 unfolding lookup update open_to is_ok
 noted_of_heard = grind (arith, nat_tests, false≢true, is_ok, none-some, nothing_readable, true≢false)
 
+not_taken : NotTaken
+unfolding lookup
+not_taken = grind (arith, nat_tests, none-some)
+
 -- what comes behind a stream that opened comes behind any that did
 behind_opened : (h : Hearing) (news : News) → TakesMemory news h → ComesBefore (Opened 0) news
 behind_opened h news takes = grind arith
@@ -373,4 +377,4 @@ refused =
     }
 
 pub not_heard : NotHeard
-not_heard = record { news = news; first = first; refused = refused; noted = noted_of_heard }
+not_heard = record { news = news; first = first; refused = refused; taken = not_taken; noted = noted_of_heard }

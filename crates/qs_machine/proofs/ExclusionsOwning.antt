@@ -10,7 +10,7 @@ use Rattle.qs_recv.specs.News.{is_readable, tells_something}
 use Rattle.qs_recv.specs.declared.half.Read.TheVariants as reads
 use Rattle.qs_send.specs.Lane.{SendLane}
 use Rattle.qs_calls.specs.declared.news.News.{News}
-use Rattle.qs_calls.specs.declared.news.News.TheVariants.{Opened, Readable}
+use Rattle.qs_calls.specs.declared.news.News.TheVariants.{Opened, Readable, Stopped, ResetAcked}
 use Rattle.qs_machine.specs.Tables.{lookup}
 use Rattle.qs_machine.specs.Ends.{End}
 use Rattle.qs_machine.specs.News.{IsReadable}
@@ -45,6 +45,9 @@ told =
       out_of_order = λ new h. (let f = h.first.first (Opened 0) opens_first in f.2 (subst (ComesBefore (Opened 0)) (same_Some (Readable 0) f.0 f.1) (inl (omega arith))));
       unnoted = λ h. (let same = ap (λ (x : Hearing). x.opened_bidi) h.note in omega (arith, same));
       two = λ h. both_ways (set.contains first 0) (ap (λ (x : Hearing). set.contains x.readable 0) h.note ∙ unmarked 0) first_marked;
+      stop_first = λ new h. (let f = h.first.first (Stopped 0 7) (refl, unmarked 0) in f.2 (subst (ComesBefore (Stopped 0 7)) (same_Some (ResetAcked 0) f.0 f.1) (inl (omega arith))));
+      stop_left = λ e h. both_ways (set.contains first 0) (sym (ap (λ (x : Hearing). set.contains x.stopped 0) h.note) ∙ unmarked 0) first_marked;
+      stop_left_of_reset = λ e h. both_ways (set.contains first 0) (sym (ap (λ (x : Hearing). set.contains x.stopped 0) h.note) ∙ unmarked 0) first_marked;
       changed = λ h. none-some {A = ℕ} 3 (ap (λ (e : End). elim (lookup e.recvs 0) [ None ↦ None | Some l ↦ l.final_size ]) h.still);
     }
 

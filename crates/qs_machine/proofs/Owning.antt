@@ -37,8 +37,8 @@ use Rattle.qs_machine.specs.Lawful.{frame_put, chunk_of}
 use Rattle.qs_machine.specs.Setting.{Grant, StreamWindow, SendBuffer}
 use Rattle.qs_machine.specs.News.{IsHeld, IsReadable, IsEnded}
 use Rattle.qs_machine.specs.Asking.{room, open_left, stop_of, stopped_with}
-use Rattle.qs_machine.specs.Heard.{WasResetAcked, HasFinished, place_of, is_met, limit_to_tell}
-use Rattle.qs_machine.specs.Hearing.{Hearing, heard_opened, IsNextOpened, IsNews, having_told}
+use Rattle.qs_machine.specs.Heard.{WasResetAcked, HasFinished, ComesBefore, place_of, is_met, limit_to_tell}
+use Rattle.qs_machine.specs.Hearing.{Hearing, heard_opened, IsNextOpened, IsNews, IsFirstNews, having_told}
 use Rattle.qs_machine.specs.EndStep.{Call, Answer, EndStep, Open, Write, Stop, StopAndDiscard, ReadUpTo, Consume, Receive, TakeFrame, TakeFrames}
 use Rattle.qs_machine.specs.Owning.{Owned, reads_on, after_reading, after_writing, after_opening, item_heard, frame_heard, frames_heard, after_payload, after_frames, heard_after, OwnedStep, heard_of, TellStep, HasNews, IsOver, IsLedTo, NoNewsIsLost}
 use Rattle.qs_machine.specs.Standing.{IsSound, IsInCredit}
@@ -314,6 +314,10 @@ calls_keep k old new call answer n reached step is =
     (sends_told old.end sound sent call answer new.end step.step)
     n is
 
+-- what is news comes not before the first
+not_before : (o : Owned) (n other : News) → IsFirstNews o.end o.heard (Some n) → HasNews o other → ComesBefore other n → ⊥
+not_before o n other first is before = (let f = first.first other is in f.2 (subst (ComesBefore other) (same_Some n f.0 f.1) before))
+
 pub no_news_is_lost : NoNewsIsLost
 no_news_is_lost =
     record {
@@ -321,5 +325,5 @@ no_news_is_lost =
       told = λ old new n step is.
           told_is_over old.end old.heard n (step.first.found n refl) (subst (λ h. IsNews old.end h n) step.note (subst (λ e. IsNews e new.heard n) step.still is));
       others = λ old new n other step is apart.
-          subst (λ e. IsNews e new.heard other) (sym step.still) (subst (λ h. IsNews old.end h other) (sym step.note) (others_stay old.end old.heard n other (step.first.found n refl) is apart));
+          subst (λ e. IsNews e new.heard other) (sym step.still) (subst (λ h. IsNews old.end h other) (sym step.note) (others_stay old.end old.heard n other (step.first.found n refl) is apart (not_before old n other step.first is)));
     }

@@ -1,5 +1,5 @@
 -- What is told is news no more, and other news stays.
-use Rattle.std.proofs.Common.{◌≡◌, ℕ, ◌+◌, ◌/◌, Bool, true, false, not, ◌&&◌, ◌||◌, ◌==◌, Some, refl, sym, ap, ◌∙◌, subst, arith}
+use Rattle.std.proofs.Common.{◌≡◌, ℕ, ◌+◌, ◌/◌, Bool, true, false, not, ◌&&◌, ◌||◌, ◌==◌, Some, refl, sym, ap, ◌∙◌, subst, arith, inl}
 use Rattle.std.specs.Cmp.{nat_cmp_total, unsigned_tied}
 use Rattle.std.specs.FinSet as set
 use Rattle.std.proofs.lemmas.Option.{same_Some}
@@ -17,7 +17,7 @@ use Rattle.qs_machine.specs.Tables.{index_of}
 use Rattle.qs_machine.specs.Ends.{End, is_own_by}
 use Rattle.qs_machine.specs.News.{IsHeld}
 use Rattle.qs_machine.specs.Asking.{stopped_with}
-use Rattle.qs_machine.specs.Heard.{WasResetAcked, HasFinished, place_of}
+use Rattle.qs_machine.specs.Heard.{WasResetAcked, HasFinished, place_of, ComesBefore}
 use Rattle.qs_machine.specs.Hearing.{Hearing, heard_opened, with_opened, IsNextOpened, IsNews, having_told}
 
 -- what is marked, and what isn't any more
@@ -103,24 +103,27 @@ opened_beside e h Uni (Opened k) other is = absurd (other k refl)
 opened_beside e h Bidi m other is = is
 opened_beside e h Uni m other is = is
 
-pub others_stay : (e : End) (h : Hearing) (n m : News) → IsNews e h n → IsNews e h m → (m ≡ n → ⊥) → IsNews e (having_told n h) m
-others_stay e h (Opened n) (Opened m) was is apart = next_beside e h n m was is (λ same. apart (ap Opened same))
-others_stay e h (Opened n) m was is apart = opened_beside e h (dir_of n) m (λ k same. grind arith) is
-others_stay e h (Readable n) (Readable m) was is apart = still_unmarked h.readable n m _ is (λ same. apart (ap Readable same))
-others_stay e h (Writable n) (Writable m) was is apart = still_marked h.short n m _ is (λ same. apart (ap Writable same))
-others_stay e h (Stopped n code) (Stopped m other) was is apart =
+pub others_stay : (e : End) (h : Hearing) (n m : News) → IsNews e h n → IsNews e h m → (m ≡ n → ⊥) → (ComesBefore m n → ⊥) → IsNews e (having_told n h) m
+others_stay e h (Opened n) (Opened m) was is apart late = next_beside e h n m was is (λ same. apart (ap Opened same))
+others_stay e h (Opened n) m was is apart late = opened_beside e h (dir_of n) m (λ k same. grind arith) is
+others_stay e h (Readable n) (Readable m) was is apart late = still_unmarked h.readable n m _ is (λ same. apart (ap Readable same))
+others_stay e h (Writable n) (Writable m) was is apart late = still_marked h.short n m _ is (λ same. apart (ap Writable same))
+others_stay e h (Stopped n code) (Stopped m other) was is apart late =
     still_unmarked h.stopped n m _ is (λ same. apart (stop_is e n m code other same was.0 is.0))
   where
     stop_is : (e : End) (n m code other : ℕ) → m ≡ n → stopped_with e n ≡ Some code → stopped_with e m ≡ Some other → Stopped m other ≡ Stopped n code
     stop_is e n m code other same at there = let one : other ≡ code = same_Some other code (sym there ∙ ap (stopped_with e) same ∙ at) in cc
-others_stay e h (Finished n) (Finished m) was is apart = still_unmarked h.sent n m _ is (λ same. apart (ap Finished same))
-others_stay e h (Finished n) (ResetAcked m) was is apart = still_unmarked h.sent n m _ is (λ same. not_both e n was.0 (subst (IsHeld WasResetAcked e.sends) same is.0))
-others_stay e h (ResetAcked n) (Finished m) was is apart = still_unmarked h.sent n m _ is (λ same. not_both e n (subst (IsHeld HasFinished e.sends) same is.0) was.0)
-others_stay e h (ResetAcked n) (ResetAcked m) was is apart = still_unmarked h.sent n m _ is (λ same. apart (ap ResetAcked same))
-others_stay e h (Ended n) (Ended m) was is apart = still_unmarked h.ended n m _ is (λ same. apart (ap Ended same))
-others_stay e h (Available c) (Available d) was is apart = still_marked h.wants (place_of c) (place_of d) _ is (places_apart d c (λ same. apart (ap Available same)))
-others_stay e h DataBlocked DataBlocked was is apart = absurd (apart refl)
-others_stay e h (StreamDataBlocked n) (StreamDataBlocked m) was is apart = still_marked h.blocked n m _ is (λ same. apart (ap StreamDataBlocked same))
-others_stay e h (StreamsBlocked c) (StreamsBlocked d) was is apart = still_marked h.counts_blocked (place_of c) (place_of d) _ is (places_apart d c (λ same. apart (ap StreamsBlocked same)))
-others_stay e h n (Opened m) was is apart = next_still e h (having_told n h) m refl refl is
-others_stay e h n m was is apart = is
+-- a stop comes before any end, so where an end is first no stop is news
+others_stay e h (Finished n) (Stopped m code) was is apart late = absurd (late (inl (omega arith)))
+others_stay e h (ResetAcked n) (Stopped m code) was is apart late = absurd (late (inl (omega arith)))
+others_stay e h (Finished n) (Finished m) was is apart late = still_unmarked h.sent n m _ is (λ same. apart (ap Finished same))
+others_stay e h (Finished n) (ResetAcked m) was is apart late = still_unmarked h.sent n m _ is (λ same. not_both e n was.0 (subst (IsHeld WasResetAcked e.sends) same is.0))
+others_stay e h (ResetAcked n) (Finished m) was is apart late = still_unmarked h.sent n m _ is (λ same. not_both e n (subst (IsHeld HasFinished e.sends) same is.0) was.0)
+others_stay e h (ResetAcked n) (ResetAcked m) was is apart late = still_unmarked h.sent n m _ is (λ same. apart (ap ResetAcked same))
+others_stay e h (Ended n) (Ended m) was is apart late = still_unmarked h.ended n m _ is (λ same. apart (ap Ended same))
+others_stay e h (Available c) (Available d) was is apart late = still_marked h.wants (place_of c) (place_of d) _ is (places_apart d c (λ same. apart (ap Available same)))
+others_stay e h DataBlocked DataBlocked was is apart late = absurd (apart refl)
+others_stay e h (StreamDataBlocked n) (StreamDataBlocked m) was is apart late = still_marked h.blocked n m _ is (λ same. apart (ap StreamDataBlocked same))
+others_stay e h (StreamsBlocked c) (StreamsBlocked d) was is apart late = still_marked h.counts_blocked (place_of c) (place_of d) _ is (places_apart d c (λ same. apart (ap StreamsBlocked same)))
+others_stay e h n (Opened m) was is apart late = next_still e h (having_told n h) m refl refl is
+others_stay e h n m was is apart late = is

@@ -3,12 +3,12 @@
 use Rattle.std.specs.Prelude.{true, false, [], ◌∷◌, None, Some, Ok, Err}
 use Rattle.qs_ranges.specs.declared.NoMemory.{NoMemory}
 use Rattle.qs_wire.specs.declared.stream_id.Dir.TheVariants.{Bidi}
-use Rattle.qs_calls.specs.declared.news.News.TheVariants.{Opened, Readable, Writable, Stopped, Finished, ResetAcked, Available, DataBlocked}
+use Rattle.qs_calls.specs.declared.news.News.TheVariants.{Opened, Readable, Writable, Stopped, Finished, ResetAcked, Ended, Available, DataBlocked}
 use Rattle.qs_recv.specs.Lane.{RecvLane}
 use Rattle.qs_send.specs.declared.piece.Item.TheVariants as items
 use Rattle.qs_machine.specs.Seen.{Control}
 use Rattle.qs_machine.specs.Tables.{no_streams}
-use Rattle.qs_machine.specs.Heard.{Hearing, heard_nothing, nothing_blocked, IsNews, IsFirstNews, IsHeardBy, IsNextNews, IsNoted, WillWrite, IsReadOn}
+use Rattle.qs_machine.specs.Heard.{Hearing, heard_nothing, nothing_blocked, IsNews, IsFirstNews, IsHeardBy, TakesMemory, IsNextNews, IsNoted, WillWrite, IsReadOn}
 use Rattle.qs_machine.specs.SmallEnds.{client_with, server_with, raised, only, begun, finished, reset_half, fresh, all_came}
 use Rattle.qs_machine.specs.ExclusionsOwner.{over}
 
@@ -70,11 +70,29 @@ pub record NotRefused : Type 0 where
   -- and then something is noted
   pub noted : (refused : NoMemory) → IsNextNews (server_with all_came) heard_one (Err refused) (record heard_one { readable = only true }) → ⊥
 
+-- a half came to its end: there is a mark of its stream among both kinds
+abbrev pub ends_marked : Hearing
+ends_marked = record heard_nothing { stopped = only false; sent = only false }
+
+-- memory isn't taken
+pub record NotTaken : Type 0 where
+  -- to tell of an end, where both marks have a place
+  pub finished : TakesMemory (Finished 0) ends_marked → ⊥
+  pub reset : TakesMemory (ResetAcked 0) ends_marked → ⊥
+  -- to tell of a stop, for the place among those that ended
+  pub stopped : TakesMemory (Stopped 0 7) (record heard_nothing { stopped = only false }) → ⊥
+
 -- so it isn't noted
 pub record NotNoted : Type 0 where
   -- what was told isn't kept, or of another kind
   pub unkept : IsHeardBy (Readable 0) heard_one heard_one → ⊥
   pub another : IsHeardBy (Readable 0) heard_one (record heard_one { ended = only true }) → ⊥
+  -- an end is told, and a stop of that half is to be told still
+  pub stop_left : IsHeardBy (Finished 0) heard_nothing (record heard_nothing { sent = only true }) → ⊥
+  pub stop_left_of_reset : IsHeardBy (ResetAcked 0) heard_nothing (record heard_nothing { sent = only true }) → ⊥
+  -- of a stream that is over or was stopped, more is noted than that
+  pub stop_beside : IsHeardBy (Ended 0) heard_nothing (record heard_nothing { ended = only true; stopped = only true }) → ⊥
+  pub end_beside : IsHeardBy (Stopped 0 7) heard_nothing (record heard_nothing { stopped = only true; sent = only true }) → ⊥
   -- a stream opened, and two were heard of
   pub two_opened : IsHeardBy (Opened 0) heard_nothing (record heard_nothing { opened_bidi = 2 }) → ⊥
   -- a write that is cut short isn't kept
@@ -101,4 +119,5 @@ pub record NotHeard : Type 0 where
   pub news : NoNews
   pub first : NotFirst
   pub refused : NotRefused
+  pub taken : NotTaken
   pub noted : NotNoted

@@ -6,6 +6,7 @@ use Rattle.qs_ranges.specs.Numbers.{NumberSet}
 use Rattle.qs_wire.specs.Layout.{data_blocked, stream_data_blocked, streams_blocked}
 use Rattle.qs_wire.specs.declared.stream_id.Dir.TheVariants.{Bidi}
 use Rattle.qs_recv.specs.declared.half.Read.TheVariants as reads
+use Rattle.qs_send.specs.Lane.{SendLane}
 use Rattle.qs_calls.specs.declared.closing.Received.TheVariants as received
 use Rattle.qs_calls.specs.declared.news.News.{News}
 use Rattle.qs_calls.specs.declared.news.News.TheVariants.{Opened, Readable, Writable, Stopped, Finished, ResetAcked, Available, DataBlocked, StreamDataBlocked, StreamsBlocked}
@@ -34,6 +35,10 @@ told_first = record heard_one { readable = first }
 
 abbrev pub owned : End → Hearing → Owned
 owned e h = record { end = e; heard = h }
+
+-- the peer stopped a half, and its reset is acknowledged
+abbrev pub stopped_half : SendLane
+stopped_half = record reset_half { stopped = Some 7; reset_acked = true }
 
 -- that is no news
 pub record NoNewsOf : Type 0 where
@@ -73,6 +78,10 @@ pub record NotToldSo : Type 0 where
   -- what it isn't noted to have heard then, or two pieces of news at once
   pub unnoted : TellStep (owned (server_with all_came) heard_nothing) (Some (Opened 0)) (owned (server_with all_came) heard_nothing) → ⊥
   pub two : TellStep (owned (server_with all_came) heard_nothing) (Some (Opened 0)) (owned (server_with all_came) told_first) → ⊥
+  -- that a half came to its end before it is told that it was stopped, or so that a stop of it is to be told still
+  pub stop_first : (new : Owned) → TellStep (owned (client_with stopped_half) heard_nothing) (Some (ResetAcked 0)) new → ⊥
+  pub stop_left : (e : End) → TellStep (owned e heard_nothing) (Some (Finished 0)) (owned e (record heard_nothing { sent = first })) → ⊥
+  pub stop_left_of_reset : (e : End) → TellStep (owned e heard_nothing) (Some (ResetAcked 0)) (owned e (record heard_nothing { sent = first })) → ⊥
   -- with a change of the end
   pub changed : TellStep (owned (server_with all_came) heard_nothing) (Some (Opened 0)) (owned (server_with fresh) heard_one) → ⊥
 

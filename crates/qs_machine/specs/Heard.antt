@@ -44,7 +44,7 @@ abbrev pub nothing_blocked : Blocked
 nothing_blocked = record { conn = false; streams = no_streams; bidi = false; uni = false }
 
 -- What an owner heard of: how many of the peer's streams opened, of each direction; which streams are readable, of those that weren't read
--- empty since; which sending halves came to their end; which were stopped; which streams are over. And what it waits for: to write
+-- empty since; of which sending halves no stop is left to tell, and which came to their end; which streams are over. And what it waits for: to write
 -- to streams of which a write was cut short, and to open a stream of a direction. And what it is to hear of the peer's.
 pub record Hearing : Type 0 where
   pub opened_bidi : ℕ
@@ -173,29 +173,30 @@ pub record IsFirstNews (e : End) (h : Hearing) (answer : Option News) : Type 0 w
   pub found : (news : News) → answer ≡ Some news → IsNews e h news
   pub first : (other : News) → IsNews e h other → (news : News) × (answer ≡ Some news) × (ComesBefore other news → ⊥)
 
--- What was heard once a piece of news was told: it isn't told again.
+-- What was heard once a piece of news was told: it isn't told again. A sending half that came to its end takes no STOP_SENDING any more
+-- (RFC 9000, sections 3.1 and 3.5), so to tell of its end notes, too, that no stop of it is left to tell.
 abbrev pub IsHeardBy : News → Hearing → Hearing → Type 0
 IsHeardBy (Opened n) h new = new ≡ with_opened h (dir_of n)
 IsHeardBy (Readable n) h new = IsToldBeside n h.readable new.readable × (new ≡ record h { readable = new.readable })
 IsHeardBy (Writable n) h new = IsForgotten n h.short new.short × (new ≡ record h { short = new.short })
 IsHeardBy (Stopped n code) h new = IsToldBeside n h.stopped new.stopped × (new ≡ record h { stopped = new.stopped })
-IsHeardBy (Finished n) h new = IsToldBeside n h.sent new.sent × (new ≡ record h { sent = new.sent })
-IsHeardBy (ResetAcked n) h new = IsToldBeside n h.sent new.sent × (new ≡ record h { sent = new.sent })
+IsHeardBy (Finished n) h new = IsToldBeside n h.sent new.sent × IsToldBeside n h.stopped new.stopped × (new ≡ record h { sent = new.sent; stopped = new.stopped })
+IsHeardBy (ResetAcked n) h new = IsToldBeside n h.sent new.sent × IsToldBeside n h.stopped new.stopped × (new ≡ record h { sent = new.sent; stopped = new.stopped })
 IsHeardBy (Ended n) h new = IsToldBeside n h.ended new.ended × (new ≡ record h { ended = new.ended })
 IsHeardBy (Available d) h new = new ≡ with_wants h d false
 IsHeardBy DataBlocked h new = new ≡ record h { blocked = record h.blocked { conn = false } }
 IsHeardBy (StreamDataBlocked n) h new = IsForgotten n h.blocked.streams new.blocked.streams × (new ≡ record h { blocked = record h.blocked { streams = new.blocked.streams } })
 IsHeardBy (StreamsBlocked d) h new = new ≡ record h { blocked = with_held_back h.blocked d false }
 
--- To note it as heard takes memory: its stream has no mark yet, set or not. That a stream opened or takes a byte, that one may be opened, and
+-- To note it as heard takes memory: its stream has no mark yet, set or not, among those that are made. That a stream opened or takes a byte, that one may be opened, and
 -- what holds the peer back take none (ours).
 abbrev pub TakesMemory : News → Hearing → Type 0
 TakesMemory (Opened n) h = ⊥
 TakesMemory (Readable n) h = lookup h.readable n ≡ None
 TakesMemory (Writable n) h = ⊥
 TakesMemory (Stopped n code) h = lookup h.stopped n ≡ None
-TakesMemory (Finished n) h = lookup h.sent n ≡ None
-TakesMemory (ResetAcked n) h = lookup h.sent n ≡ None
+TakesMemory (Finished n) h = (lookup h.sent n ≡ None) ⊎ (lookup h.stopped n ≡ None)
+TakesMemory (ResetAcked n) h = (lookup h.sent n ≡ None) ⊎ (lookup h.stopped n ≡ None)
 TakesMemory (Ended n) h = lookup h.ended n ≡ None
 TakesMemory (Available d) h = ⊥
 TakesMemory DataBlocked h = ⊥

@@ -25,7 +25,7 @@ pub record Hearing : Type 0 where
   pub readable : NumberSet
   -- those of which a write was cut short, so that their room is waited for
   pub short : NumberSet
-  -- those that the peer stopped, whose sending half came to its end, and that are over
+  -- those of which no stop is left to tell, whose sending half came to its end, and that are over
   pub stopped : NumberSet
   pub sent : NumberSet
   pub ended : NumberSet
@@ -77,14 +77,15 @@ pub record IsFirstNews (e : End) (h : Hearing) (answer : Option News) : Type 0 w
   pub found : (news : News) → answer ≡ Some news → IsNews e h news
   pub first : (other : News) → IsNews e h other → (news : News) × (answer ≡ Some news) × (ComesBefore other news → ⊥)
 
--- what was heard once a piece of news was told: it isn't told again
+-- What was heard once a piece of news was told: it isn't told again. A sending half that came to its end takes no STOP_SENDING any more
+-- (RFC 9000, sections 3.1 and 3.5), so to tell of its end notes, too, that no stop of it is left to tell.
 abbrev pub having_told : News → Hearing → Hearing
 having_told (Opened n) h = with_opened h (dir_of n)
 having_told (Readable n) h = record h { readable = set.insert h.readable n }
 having_told (Writable n) h = record h { short = set.remove h.short n }
 having_told (Stopped n code) h = record h { stopped = set.insert h.stopped n }
-having_told (Finished n) h = record h { sent = set.insert h.sent n }
-having_told (ResetAcked n) h = record h { sent = set.insert h.sent n }
+having_told (Finished n) h = record h { sent = set.insert h.sent n; stopped = set.insert h.stopped n }
+having_told (ResetAcked n) h = record h { sent = set.insert h.sent n; stopped = set.insert h.stopped n }
 having_told (Ended n) h = record h { ended = set.insert h.ended n }
 having_told (Available d) h = record h { wants = set.remove h.wants (place_of d) }
 having_told DataBlocked h = record h { conn_blocked = false }

@@ -58,6 +58,15 @@ impl Bits {
         }
     }
 
+    /// Takes away the flags from an index on, none of which is set.
+    #[inline]
+    pub(crate) fn close_to(&mut self, count: usize) {
+        if count < self.count {
+            self.words.truncate(count.div_ceil(FLAGS_PER_WORD));
+            self.count = count;
+        }
+    }
+
     #[inline(always)]
     pub(crate) fn has(&self, index: usize) -> bool {
         let word = self.word(index / FLAGS_PER_WORD);

@@ -62,6 +62,12 @@ impl Marks {
         self.marks.open_to(count)
     }
 
+    /// Takes away the indexes from one on, none of which is marked.
+    #[inline]
+    pub(crate) fn close_to(&mut self, count: usize) {
+        self.marks.close_to(count);
+    }
+
     /// Makes room for an index, where all below it have room. It comes in blocks, so that mostly it is there.
     #[inline(always)]
     pub(crate) fn make_room(&mut self, index: usize) -> Result<(), NoMemory> {

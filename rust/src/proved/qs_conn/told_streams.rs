@@ -40,6 +40,18 @@ impl ToldStreams {
         marks.tell(index_of(stream))
     }
 
+    /// The same here and among others, or nowhere.
+    #[inline]
+    pub(crate) fn tell_both(
+        &mut self,
+        others: &mut ToldStreams,
+        stream: StreamId,
+    ) -> Result<(), NoMemory> {
+        let marks = &mut self.types[type_of(stream)];
+        let beside = &mut others.types[type_of(stream)];
+        marks.tell_both(beside, index_of(stream))
+    }
+
     #[inline]
     pub(crate) fn forget(&mut self, stream: StreamId) {
         let marks = &mut self.types[type_of(stream)];
@@ -109,6 +121,11 @@ impl ToldMarks {
         self.marks.open_to(count)
     }
 
+    // Takes away what `open_to` gave.
+    fn close_to(&mut self, count: usize) {
+        self.marks.close_to(count);
+    }
+
     #[inline]
     pub(crate) fn set(&mut self, index: usize, is_marked: bool) {
         if self.marks.has(index) == is_marked {
@@ -138,6 +155,20 @@ impl ToldMarks {
         debug_assert!(index < 1 << 60);
         self.open_to(index + 1)?;
         self.set(index, true);
+        Ok(())
+    }
+
+    /// The same here and among others, or nowhere.
+    #[inline]
+    pub(crate) fn tell_both(&mut self, others: &mut ToldMarks, index: usize) -> Result<(), NoMemory> {
+        debug_assert!(index < 1 << 60);
+        let count = others.len();
+        others.open_to(index + 1)?;
+        if let Err(refused) = self.tell(index) {
+            others.close_to(count);
+            return Err(refused);
+        }
+        others.set(index, true);
         Ok(())
     }
 
