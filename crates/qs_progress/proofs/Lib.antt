@@ -44,6 +44,7 @@ pub mod Landed
 pub mod Paid
 pub mod Charged
 pub mod Unwritten
+pub mod Wide
 pub mod ReadInRounds
 pub mod From
 pub mod Ceased
@@ -51,4 +52,5 @@ pub mod Eased
 pub mod Moves
 pub mod Tail
 pub mod RestInRounds
+pub mod InARow
 pub mod ExclusionsWindows

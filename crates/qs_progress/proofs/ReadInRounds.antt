@@ -40,7 +40,7 @@ use Rattle.qs_progress.proofs.Onward.{Later, later_same, later_twice, onward, se
 use Rattle.qs_progress.proofs.Landed.{Landed, turned, held_back}
 use Rattle.qs_progress.proofs.Paid.{has_read, paid_back}
 use Rattle.qs_progress.proofs.Charged.{knows, Turns, conn_charged, stream_charged}
-use Rattle.qs_progress.proofs.Unwritten.{IsUnwritten, Unwritten, then_on, turn_on, reads_on, written_same}
+use Rattle.qs_progress.proofs.Unwritten.{IsUnwritten, Unwritten, turn_on, reads_on, round_on, then_on, written_same}
 
 -- a moment of a trail parts it
 parted : (Is : Call → Type 0) (ms : List Moment) (old new m : Moment) → Trail Is old ms new → Among m (old ∷ ms) → ((ns : List Moment) × Trail Is old ns m) × ((ns : List Moment) × Trail Is m ns new)
@@ -244,11 +244,6 @@ module _ (a b : Settings) where
 
     abbrev pub level_of : (old new : Moment) → WideRound k old new → ℕ
     level_of old new x = filled_by A x.0.sent_a + filled_by B x.0.sent_b
-
-    round_on : (old new : Moment) → Round old new → Unwritten old new
-    round_on old new r =
-        then_on old r.sent_a new (turn_on A old r.sent_a r.turn_a)
-        (then_on r.sent_a r.sent_b new (turn_on B r.sent_a r.sent_b r.turn_b) (reads_on r.moments r.sent_b new r.reads))
 
     pub open_before : (old new : Moment) → WideRound k old new → BothOpen new.ends → BothOpen old.ends
     open_before old new x unclosed = (let (ms, trail) = round_on old new x.0 in trail_open IsUnwritten ms old new trail unclosed)

@@ -1,19 +1,21 @@
--- Nothing is written in a round.
+-- Nothing is written or set in a round.
 use Rattle.std.proofs.lemmas.Bool.Decides.{nat_tests}
 use Rattle.std.proofs.Common.{◌≡◌, ℕ, zero, suc, List, [], ◌∷◌, ◌++◌, append-nil, ap, ◌∙◌, arith}
 use Rattle.std.specs.Prelude.{⊤, Ok, flat_map}
 use Rattle.std.proofs.lemmas.Grind.{flat_map-append}
 use Rattle.qs_calls.specs.declared.event.Side.{Side}
-use Rattle.qs_machine.specs.EndStep.{Call, Answer, Write, Lose}
+use Rattle.qs_calls.specs.declared.event.Side.TheVariants.{A, B}
+use Rattle.qs_machine.specs.EndStep.{Call, Answer, Write, Set, Lose}
 use Rattle.qs_runs.specs.Logs.{Happening, History, wrote_in, written, effects, effects_of}
 use Rattle.qs_runs.proofs.Histories.{did, effects_here, effects_there, two_sides}
 use Rattle.qs_progress.specs.Laps.{Moment, IsCalm, Trail}
-use Rattle.qs_progress.specs.Rounds.{IsRead, Loses, TakesTurn}
+use Rattle.qs_progress.specs.Rounds.{IsRead, Loses, TakesTurn, Round}
 use Rattle.qs_progress.proofs.Trails.{eased, joined}
 use Rattle.qs_progress.proofs.Turns.{sends_trail}
 
 abbrev pub IsUnwritten : Call → Type 0
 IsUnwritten (Write n bytes) = ⊥
+IsUnwritten (Set x) = ⊥
 IsUnwritten call = ⊤
 
 wrote_none : (n : ℕ) (call : Call) (answer : Answer call) → IsUnwritten call → flat_map (wrote_in n) (effects_of call answer) ≡ []
@@ -55,3 +57,8 @@ turn_on s old new (mid, (n, lost), (k, sent)) =
 
 pub reads_on : (ms : List Moment) (old new : Moment) → Trail IsRead old ms new → Unwritten old new
 reads_on ms old new reads = (ms, eased IsRead IsUnwritten read_unwritten ms old new reads)
+
+pub round_on : (old new : Moment) → Round old new → Unwritten old new
+round_on old new r =
+    then_on old r.sent_a new (turn_on A old r.sent_a r.turn_a)
+    (then_on r.sent_a r.sent_b new (turn_on B r.sent_a r.sent_b r.turn_b) (reads_on r.moments r.sent_b new r.reads))

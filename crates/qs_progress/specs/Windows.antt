@@ -38,6 +38,10 @@ pub record AreAsWide (k : Widths) (e : End) : Type 0 where
 abbrev pub WideRound : (Side → Widths) → Moment → Moment → Type 0
 WideRound k old new = Round old new × ((s : Side) → AreAsWide (k s) (end_of new.ends s))
 
+-- ROUNDS LEAVE WINDOWS AS WIDE: nothing is set in one.
+abbrev pub RoundsLeaveWidths : Type 0
+RoundsLeaveWidths = (k : Side → Widths) (old new : Moment) → ((s : Side) → AreAsWide (k s) (end_of old.ends s)) → Round old new → WideRound k old new
+
 -- how many bytes of a stream were sent
 abbrev pub sent_on : End → ℕ → ℕ
 sent_on e n = elim (send_lane e n) [ None ↦ 0 | Some l ↦ l.sent_end ]
