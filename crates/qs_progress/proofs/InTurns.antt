@@ -27,12 +27,12 @@ use Rattle.qs_progress.specs.Score.{score, one_if}
 use Rattle.qs_progress.specs.Bound.{most}
 use Rattle.qs_progress.specs.Laps.{Moment, IsCalm, Trail, Sometime}
 use Rattle.qs_progress.specs.Comes.{BothRest, BothOpen, IsReached}
-use Rattle.qs_progress.specs.Rounds.{Happens, Loses, Delivers, Sends, TakesTurn, IsRead, Round}
+use Rattle.qs_progress.specs.Rounds.{Packets, Happens, Delivers, TakesTurn, IsRead, Round}
 use Rattle.qs_progress.proofs.Score.{what_is_done_stays}
 use Rattle.qs_progress.proofs.Bound.{ahead_below}
 use Rattle.qs_progress.proofs.Trails.{reached, joined, last_of, trail_open}
 use Rattle.qs_progress.proofs.Passing.{IsClear}
-use Rattle.qs_progress.proofs.Turns.{is_made, passed, new_payload}
+use Rattle.qs_progress.proofs.Turns.{IsSame, as_was, Losses, Sends, is_made, passed, new_payload}
 use Rattle.qs_progress.proofs.Comes.{both}
 use Rattle.qs_progress.proofs.ComesInRounds.{Led, Before, level, level_low, level_grows, round_leads, a_clear_mid, b_clear}
 use Rattle.qs_progress.proofs.Idles.{none_bare}
@@ -61,15 +61,19 @@ Losing s (suc n) old new = (k : ℕ) × (mid : Moment) × Losing s n old mid × 
 
 abbrev pub Sending : Side → ℕ → Moment → Moment → Type 0
 Sending s zero old new = new ≡ old
-Sending s (suc n) old new = (mid : Moment) × Sending s n old mid × Delivers s mid new
+Sending s (suc n) old new = (mid : Moment) × Sending s n old mid × Delivers Packets s mid new
 
-lost_all : (s : Side) (n : ℕ) (old mid new : Moment) → Losing s n old mid → (j : ℕ) × Loses s j mid new → (j : ℕ) × Loses s j old new
-lost_all s zero old mid new is rest = subst (λ m. (j : ℕ) × Loses s j m new) is rest
-lost_all s (suc n) old mid new (k, at, before, happens) (j, rest) = lost_all s n old at new before (suc j, (k, mid, happens, rest))
+lost_all : (s : Side) (n : ℕ) (old mid new : Moment) → Losing s n old mid → (j : ℕ) × Losses Packets s j mid new → (j : ℕ) × Losses Packets s j old new
+lost_all s zero old mid new is rest = subst (λ m. (j : ℕ) × Losses Packets s j m new) is rest
+lost_all s (suc n) old mid new (k, at, before, happens) (j, rest) = lost_all s n old at new before (suc j, (mid, (k, happens), rest))
 
-sent_all : (s : Side) (n : ℕ) (old mid new : Moment) → Sending s n old mid → (j : ℕ) × Sends s j mid new → (j : ℕ) × Sends s j old new
-sent_all s zero old mid new is rest = subst (λ m. (j : ℕ) × Sends s j m new) is rest
+sent_all : (s : Side) (n : ℕ) (old mid new : Moment) → Sending s n old mid → (j : ℕ) × Sends Packets s j mid new → (j : ℕ) × Sends Packets s j old new
+sent_all s zero old mid new is rest = subst (λ m. (j : ℕ) × Sends Packets s j m new) is rest
 sent_all s (suc n) old mid new (at, before, passes) (j, rest) = sent_all s n old at new before (suc j, (mid, passes, rest))
+
+-- where neither end changed
+idle_ends : (v w : World) → w ≡ v → (s : Side) → IsSame (end_of v s) (end_of w s)
+idle_ends v w same s = as_was (end_of v s) (end_of w s) (ap (λ u. end_of u s) same)
 
 -- What is counted
 
@@ -98,7 +102,7 @@ module _ (a b : Settings) where
   fresh m (inl u) = true
   fresh m (inr past) = false
 
-  then_clear : (m : Moment) (before : Before a b m) → fresh m before ≡ false → (sent : Moment) → TakesTurn A m sent → IsClear sent.ends.b
+  then_clear : (m : Moment) (before : Before a b m) → fresh m before ≡ false → (sent : Moment) → TakesTurn Packets A m sent → IsClear sent.ends.b
   then_clear m (inl u) is sent turn = absurd (true≢false is)
   then_clear m (inr (past, r, round)) is sent turn = b_clear a b past m r round sent turn
 
@@ -171,7 +175,7 @@ module _ (a b : Settings) where
       pub since : Since k now
       busy : BothRest since.begins.ends → ⊥
       sent_a : Moment
-      turn_a : TakesTurn A since.begins sent_a
+      turn_a : TakesTurn Packets A since.begins sent_a
 
     abbrev since_a_next : {k : ℕ} (x : Happening) (now new : Moment) → SinceA k now → Happens x now new → SinceA k new
     since_a_next x now new it happens = record { since = since_next x now new it.since happens; busy = it.busy; sent_a = it.sent_a; turn_a = it.turn_a }
@@ -186,7 +190,7 @@ module _ (a b : Settings) where
     pub record SendsA (k n : ℕ) (now : Moment) : Type 0 where
       pub since : Since k now
       from : Moment
-      lost : (j : ℕ) × Loses A j since.begins from
+      lost : (j : ℕ) × Losses Packets A j since.begins from
       sent : (j : ℕ) × Sending A j from now
       goes_on : (BothRest now.ends → ⊥) → BothRest since.begins.ends → ⊥
       count : IsAt k n (left (is_first since) now.ends.b + 2 * due A now) 2 (would A now) (floor (is_first since) now.ends.b) now
@@ -200,14 +204,14 @@ module _ (a b : Settings) where
     pub record SendsB (k n : ℕ) (now : Moment) : Type 0 where
       pub after : SinceA k now
       from : Moment
-      lost : (j : ℕ) × Loses B j after.sent_a from
+      lost : (j : ℕ) × Losses Packets B j after.sent_a from
       sent : (j : ℕ) × Sending B j from now
       count : IsAt k n (2 * due B now) 5 (would A now) (would B now) now
 
     pub record ReadsA (k n : ℕ) (now : Moment) : Type 0 where
       pub after : SinceA k now
       sent_b : Moment
-      turn_b : TakesTurn B after.sent_a sent_b
+      turn_b : TakesTurn Packets B after.sent_a sent_b
       moments : List Moment
       trail : Trail IsRead sent_b moments now
       count : IsAt k n 0 6 (would A now) (would B now) now
@@ -282,7 +286,7 @@ module _ (a b : Settings) where
     pub none_a : (k n : ℕ) (x : Happening) (now new : Moment) → SendsA k n now → (BothRest now.ends → ⊥) → Happens x now new → IsCalm x.call → new.ends ≡ now.ends → (Sendable now.ends.a → ⊥) → LosesB k (suc n) new
     none_a k n x now new st busy happens calm same none =
         let f = is_first st.since in
-        let turn : TakesTurn A st.since.begins new = (st.from, st.lost, sent_all A st.sent.0 st.from now new st.sent.1 (1, (new, inr (x, calm, happens, same), (refl, subst (λ v. Sendable v.a → ⊥) (sym same) none)))) in
+        let turn : TakesTurn Packets A st.since.begins new = (st.from, st.lost, sent_all A st.sent.0 st.from now new st.sent.1 (1, (new, inr (x, calm, happens, idle_ends now.ends new.ends same), (refl, (subst (λ v. Sendable v.a → ⊥) (sym same) none, λ is. absurd (cc is)))))) in
         let left_same : left f new.ends.b ≡ left f now.ends.b = ap (λ (v : World). left f v.b) same in
         let floor_same : floor f new.ends.b ≡ floor f now.ends.b = ap (λ (v : World). floor f v.b) same in
         let would_same : would A new ≡ would A now = ap (λ (v : World). score (ahead v.a)) same in
@@ -341,7 +345,7 @@ module _ (a b : Settings) where
 
     pub none_b : (k n : ℕ) (x : Happening) (now new : Moment) → SendsB k n now → Happens x now new → IsCalm x.call → new.ends ≡ now.ends → (Sendable now.ends.b → ⊥) → ReadsA k (suc n) new
     none_b k n x now new st happens calm same none =
-        let turn : TakesTurn B st.after.sent_a new = (st.from, st.lost, sent_all B st.sent.0 st.from now new st.sent.1 (1, (new, inr (x, calm, happens, same), (refl, subst (λ v. Sendable v.b → ⊥) (sym same) none)))) in
+        let turn : TakesTurn Packets B st.after.sent_a new = (st.from, st.lost, sent_all B st.sent.0 st.from now new st.sent.1 (1, (new, inr (x, calm, happens, idle_ends now.ends new.ends same), (refl, (subst (λ v. Sendable v.b → ⊥) (sym same) none, λ is. absurd (cc is)))))) in
         let same_a : would A new ≡ would A now = ap (λ (v : World). score (ahead v.a)) same in
         let same_b : would B new ≡ would B now = ap (λ (v : World). score (ahead v.b)) same in
         record {
@@ -386,7 +390,7 @@ module _ (a b : Settings) where
     over_read_b k n now st none unclosed =
         let r = st.reads in
         let since = r.after.since in
-        let round : Round since.begins now = record {
+        let round : Round Packets since.begins now = record {
           sent_a = r.after.sent_a;
           sent_b = r.sent_b;
           moments = r.moments;
@@ -395,7 +399,7 @@ module _ (a b : Settings) where
           reads = r.trail;
           none_to_read = λ s. by s;
         } in
-        let (ms, led) = round_leads since.begins now round in
+        let (ms, led) = round_leads Packets since.begins now round in
         let open_end = trail_open (λ call. ⊤) ms since.begins now led unclosed in
         let high = level_grows a b since.begins now since.base.before since.base.at open_end r.after.busy round in
         let rounds = since.base.rounds in

@@ -25,6 +25,7 @@ pub mod TopRun
 pub mod Kept
 pub mod Passing
 pub mod Turns
+pub mod ByTokens
 pub mod ComesInRounds
 pub mod InTurns
 pub mod ExclusionsLaps
@@ -41,6 +42,7 @@ pub mod Counting
 pub mod Filled
 pub mod Onward
 pub mod Landed
+pub mod Clear
 pub mod Paid
 pub mod Charged
 pub mod Unwritten

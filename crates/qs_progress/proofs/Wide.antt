@@ -1,5 +1,5 @@
 -- A call that sets nothing leaves windows as they were: of the connection, of each stream that is open, and of each one that it opens.
-use Rattle.std.proofs.Common.{◌≡◌, ℕ, ◌%◌, ◌&&◌, List, [], ◌∷◌, take, Option, Some, None, refl, sym, ap, ◌∙◌, subst, arith, inl, inr}
+use Rattle.std.proofs.Common.{◌≡◌, ℕ, ◌&&◌, List, [], ◌∷◌, take, Option, Some, None, refl, sym, ap, ◌∙◌, subst, arith, inl, inr}
 use Rattle.std.proofs.lemmas.Bool.Decides.{nat_tests}
 use Rattle.std.proofs.lemmas.Bool.{cases_eq, cond_both}
 use Rattle.qs_wire.specs.declared.stream_id.Dir.TheVariants.{Uni}
@@ -21,7 +21,8 @@ use Rattle.qs_runs.specs.Logs.{other}
 use Rattle.qs_runs.specs.Worlds.{end_of}
 use Rattle.qs_runs.proofs.Histories.{two_sides}
 use Rattle.qs_progress.specs.Laps.{Moment, Trail}
-use Rattle.qs_progress.specs.Windows.{Widths, IsAsWide, AreAsWide, RoundsLeaveWidths}
+use Rattle.qs_progress.specs.Windows.{Widths, AreAsWide, RoundsLeaveWidths}
+use Rattle.qs_progress.specs.ExclusionsWindows.{IsAsWide}
 use Rattle.qs_progress.proofs.From.{window_by}
 use Rattle.qs_progress.proofs.Unwritten.{IsUnwritten, round_on}
 
@@ -162,4 +163,4 @@ trail_wide k (m ∷ ms) old new ((x, unset, logged, step), rest) wide s =
     (wide t)) s
 
 pub rounds_leave_widths : RoundsLeaveWidths
-rounds_leave_widths k old new wide round = (let (ms, trail) = round_on old new round in (round, trail_wide k ms old new trail wide))
+rounds_leave_widths w k old new wide round = (let (ms, trail) = round_on w old new round in (round, trail_wide k ms old new trail wide))

@@ -66,7 +66,7 @@ pub fn all_comes()
     ensures { AllComes }
 {}
 
-/// By rounds, too: two for each width of a window that is filled, five for each stretch, and five.
+/// By rounds, too, by packets as by tokens: two for each width of a window that is filled, five for each stretch, and five.
 pub fn rest_comes_in_rounds()
     ensures { RestComesInRounds }
 {}

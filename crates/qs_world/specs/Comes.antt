@@ -40,6 +40,5 @@ abbrev pub ComesToRest : Played → ℕ → Result Drained PlayFault → Played 
 ComesToRest old allowed (Ok UsedUp) new = list_any (λ x. is_refused x.1) (take allowed new.log) ≡ false →
     (allowed ≤ fmap.len old.ends.a.outstanding + fmap.len old.ends.b.outstanding + 8 * most (happened new.log) new.ends + 13)
     × ((k : Side → Widths) → ((s : Side) → AreAsWide (k s) (end_of old.ends s)) → ((s : Side) → HasRoom new.ends s) →
-    sum_by (λ x. if same_side A x.0.end && makes_none x.1 then 1 else 0) (take allowed new.log)
-    ≤ 2 * (filled (k B) old.ends.a new.ends.a + filled (k A) old.ends.b new.ends.b) + 6)
+    sum_by (λ x. if same_side A x.0.end && makes_none x.1 then 1 else 0) (take allowed new.log) ≤ 2 * (filled (k B) old.ends.a new.ends.a + filled (k A) old.ends.b new.ends.b) + 6)
 ComesToRest old allowed result new = ⊤
