@@ -9,8 +9,8 @@
 mod support;
 
 use gotsavena::{
-    Dir, Endpoint, Frame, LostFault, OpenFault, Read, Received, Settings, StreamId, Taken, Token,
-    UseFault,
+    Dir, Endpoint, Frame, LostFault, OpenFault, Read, Received, SendState, Settings, StreamId,
+    Taken, Token, UseFault,
 };
 use support::doubled::{Want, all_frames, fill_one, is_ours};
 use support::{Random, two_ends};
@@ -41,6 +41,8 @@ struct Packet {
 struct Run {
     by: By,
     ends: [Endpoint; 2],
+    /// The windows of the connection and of each stream, each less its step of a half.
+    widths: (u64, u64),
     packets: [Vec<Packet>; 2],
     streams: Vec<StreamId>,
     /// Bytes that were written and streams that were opened, at both ends.
@@ -57,22 +59,31 @@ struct Run {
 }
 
 // Windows of some bytes, or small ones, or greater; each is moved by half.
-fn settings(random: &mut Random, seed: u64) -> Settings {
+fn settings(random: &mut Random, seed: u64) -> (Settings, (u64, u64)) {
     let most = [1, 4, 64, 1024][(seed / 3 % 4) as usize];
     let at_first = random.below(3);
-    Settings::small()
-        .conn_window(1 + random.below(most))
-        .stream_windows(1 + random.below(most))
+    let (conn, stream) = (1 + random.below(most), 1 + random.below(most));
+    let settings = Settings::small()
+        .conn_window(conn)
+        .stream_windows(stream)
         .send_buffer(1 + random.below(2 * most) as usize)
-        .streams(at_first, at_first + 1 + random.below(4))
+        .streams(at_first, at_first + 1 + random.below(4));
+    (settings, (width(conn), width(stream)))
+}
+
+// A window less its step, of a half.
+fn width(window: u64) -> u64 {
+    window - (window / 2).max(1)
 }
 
 impl Run {
     fn new(seed: u64) -> Run {
         let mut random = Random::new(seed);
+        let (settings, widths) = settings(&mut random, seed);
         Run {
             by: [By::Payloads, By::Frames, By::Both][(seed % 3) as usize],
-            ends: two_ends(settings(&mut random, seed)),
+            ends: two_ends(settings),
+            widths,
             packets: [Vec::new(), Vec::new()],
             streams: Vec::new(),
             written: 0,
@@ -95,6 +106,28 @@ impl Run {
     /// The bound of `rest_comes`.
     fn bound(&self) -> u64 {
         2 * self.most() + self.stretches + 1
+    }
+
+    // How many bytes of a stream an end sent.
+    fn sent(&self, side: usize, stream: StreamId) -> u64 {
+        let half = self.ends[side]
+            .report(stream)
+            .and_then(|report| report.send);
+        half.map_or(0, |half| match half.state {
+            SendState::ResetSent | SendState::ResetRecvd => half.final_size.expect("declared"),
+            _ => half.written - self.ends[side].unsent(stream),
+        })
+    }
+
+    /// Three times as many as the law `rest_comes_in_rounds` allows rounds, by the widths that were filled: no law of laps.
+    fn by_windows(&self) -> u64 {
+        let (conn, stream) = self.widths;
+        let filled = |side| {
+            let sent = self.streams.iter().map(|&s| self.sent(side, s));
+            let each: u64 = sent.clone().map(|sent| sent / (stream + 1)).sum();
+            sent.sum::<u64>() / (conn + 1) + each
+        };
+        3 * (2 * (filled(0) + filled(1)) + 5 * self.stretches + 5)
     }
 
     // Nothing is lost, asked for, set or closed.
@@ -322,8 +355,41 @@ impl Run {
         }
     }
 
+    // As slow a lap: what each end had to send, its readers to read and the layer beneath to deliver as it began is done, in this order, and
+    // nothing that follows from it.
+    fn lazy_lap(&mut self) {
+        let out = [0, 1].map(|side| self.outstanding(side));
+        let may_send = [0, 1].map(|side| !is_spent(&self.ends[side]));
+        let may_read = [0, 1].map(|side| !is_read(&self.ends[side]));
+        for (side, may_send) in may_send.into_iter().enumerate() {
+            while may_send && self.ends[side].is_sendable() {
+                self.fill(side, 600);
+            }
+        }
+        for (side, may_read) in may_read.into_iter().enumerate() {
+            while may_read && !is_read(&self.ends[side]) {
+                self.read(side);
+            }
+        }
+        for (side, out) in out.into_iter().enumerate() {
+            for place in out {
+                let packet = &self.packets[side][place];
+                let frames = all_frames(&packet.text);
+                assert!(self.ends[1 - side].take_frames(&frames).is_ok());
+                assert_eq!(self.ends[side].acked(packet.token), Ok(()));
+            }
+        }
+        self.laps += 1;
+    }
+
+    fn outstanding(&self, side: usize) -> Vec<usize> {
+        let next = |from| self.ends[side].next_outstanding(from);
+        let all = std::iter::successors(next(0), |&number| next(number + 1));
+        all.map(|number| number as usize).collect()
+    }
+
     // Laps, of which none begins at rest, and between them stretches in which anything happens.
-    fn course(&mut self) {
+    fn course(&mut self, lap: fn(&mut Run)) {
         for _ in 0..EVENTS {
             self.any_call();
         }
@@ -332,7 +398,7 @@ impl Run {
                 if self.ends.iter().all(is_at_rest) {
                     break;
                 }
-                self.lap();
+                lap(self);
             }
             self.may_read = true;
             for _ in 0..self.random.below(EVENTS as u64) {
@@ -341,26 +407,87 @@ impl Run {
             self.stretches += 1;
         }
         while !self.ends.iter().all(is_at_rest) {
-            self.lap();
+            lap(self);
         }
     }
 }
 
+// A run by frames is led to rest by laps that are as slow as they can be.
+fn lazy_run(seed: u64) -> Run {
+    let mut run = Run::new(seed / 3 * 3 + 1);
+    assert!(run.by == By::Frames);
+    run.course(Run::lazy_lap);
+    run
+}
+
+/// Lazy laps need more than others, and no more than three times as many as rounds may be.
+#[test]
+fn lazy_laps_lead_to_rest() {
+    let seeds = seeds();
+    let (mut laps, mut nearest) = (0, 0.0_f64);
+    for seed in 0..seeds {
+        let run = lazy_run(3 * seed);
+        let most = run.by_windows();
+        assert!(
+            run.laps <= most.min(run.bound()),
+            "{}: {} laps of {most}",
+            run.what,
+            run.laps
+        );
+        nearest = nearest.max(run.laps as f64 / most as f64);
+        laps += run.laps;
+    }
+    println!(
+        "{seeds} runs: {laps} lazy laps, {nearest:.3} of three times the bound by windows at most"
+    );
+    // One window after another takes five laps.
+    let mut run = Run::new(1);
+    (run.ends, run.widths) = (
+        two_ends(Settings::small().conn_window(1000).stream_windows(16)),
+        (500, 8),
+    );
+    let stream = run.ends[0].open(Dir::Uni).expect("granted");
+    run.streams.push(stream);
+    assert_eq!(run.ends[0].write(stream, &[7; 160]), Ok(160));
+    run.written = 160;
+    while !run.ends.iter().all(is_at_rest) {
+        run.lazy_lap();
+    }
+    assert!(
+        run.laps > 2 * (160 / 9) && run.laps <= run.by_windows(),
+        "{} laps",
+        run.laps
+    );
+}
+
+fn seeds() -> u64 {
+    std::env::var("LAPS_SEEDS").map_or(SEEDS, |seeds| seeds.parse().expect("a number"))
+}
+
 #[test]
 fn laps_lead_every_run_to_rest_within_the_bound() {
+    let seeds = seeds();
     let (mut laps, mut calls, mut bound, mut stretches) = (0, 0, 0, 0);
-    let mut nearest = 0.0_f64;
-    for seed in 0..SEEDS {
+    let (mut nearest, mut by_windows) = (0.0_f64, 0.0_f64);
+    for seed in 0..seeds {
         let mut run = Run::new(seed);
-        run.course();
+        run.course(Run::lap);
         laps += run.laps;
         calls += run.calls;
         bound += run.bound();
         stretches += run.stretches;
         nearest = nearest.max(run.laps as f64 / run.bound() as f64);
+        let ratio = run.laps as f64 / run.by_windows() as f64;
+        assert!(
+            ratio <= 1.0,
+            "seed {seed}: {} laps, by windows {}",
+            run.laps,
+            run.by_windows()
+        );
+        by_windows = by_windows.max(ratio);
     }
     println!(
-        "{SEEDS} runs: {laps} laps of {calls} calls, and {stretches} stretches; {bound} laps may be; {nearest:.3} of these at most"
+        "{seeds} runs: {laps} laps of {calls} calls, and {stretches} stretches; {bound} laps may be; {nearest:.3} of these at most, {by_windows:.3} of three times the bound by windows"
     );
     // The runs need more laps than one for each stretch.
     assert!(laps > 2 * stretches, "{laps} laps");

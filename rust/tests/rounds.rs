@@ -1,4 +1,4 @@
-//! Random courses of rounds, with stretches between them in which anything happens, held against the bounds of the laws
+//! Random courses of rounds, by packets and by tokens, with stretches between them in which anything happens, held against the bounds of the laws
 //! `rest_comes_in_rounds` and `all_is_read_in_rounds` (docs/PROOF.md): how many rounds begin before both ends are at rest, and before all
 //! that was written was read, by the windows that it fills. And runs that refute less: a term left out, or the fullest stream in place of
 //! the sum.
@@ -8,12 +8,12 @@ mod refusing;
 mod support;
 
 use gotsavena::{
-    Dir, Endpoint, Received, Role, SendState, Settings, Share, StreamId, Token, Tuning,
+    Dir, Endpoint, Frame, Received, Role, SendState, Settings, Share, StreamId, Token, Tuning,
 };
 use refusing::refused;
-use std::collections::HashMap;
+use std::collections::{HashMap, HashSet};
 use support::Random;
-use support::doubled::{Want, all_frames, fill_one};
+use support::doubled::{Want, all_frames, fill_one, is_ours};
 
 const SEEDS: u64 = 300;
 /// So many rounds for each stretch, and as many, until all was read, and until both ends are at rest.
@@ -23,7 +23,19 @@ const REST: u64 = 5;
 /// A window as its reader keeps it, and its steps: that of the connection, or of a stream.
 type Window = Option<StreamId>;
 
+/// What the ends exchange: packets with their numbers and ACKs, or frames and tokens.
+#[derive(Clone, Copy, PartialEq)]
+enum Way {
+    Packets,
+    Tokens,
+}
+
 struct Course {
+    way: Way,
+    /// What is done in a round at no cost: streams are accepted, events are asked for, and tokens told at once or late.
+    random: Random,
+    /// The frames that each end took, by their texts.
+    taken: [HashSet<String>; 2],
     ends: [Endpoint; 2],
     share: [u64; 2],
     /// The windows of each end as a reader, those in force and the least of the course, each less its step.
@@ -58,6 +70,15 @@ fn first() -> StreamId {
     StreamId::new(0).expect("a number")
 }
 
+// Whether a frame has to land: of streams and of flow control all but those that tell of a count or of credit that holds an end back.
+fn must_land(frame: &Frame) -> bool {
+    let tells = matches!(
+        frame,
+        Frame::DataBlocked { .. } | Frame::StreamsBlocked { .. }
+    );
+    is_ours(frame) && !tells
+}
+
 fn is_at_rest(end: &Endpoint) -> bool {
     !end.is_sendable() && end.next_readable(first()).is_none() && end.next_outstanding(0).is_none()
 }
@@ -70,6 +91,9 @@ impl Course {
         };
         let limits = settings.limits();
         Course {
+            way: Way::Packets,
+            random: Random::new(0),
+            taken: [HashSet::new(), HashSet::new()],
             ends: [end(Role::Client, shares[0]), end(Role::Server, shares[1])],
             share: shares.map(|(_, share)| share),
             windows: [0, 1].map(|_| HashMap::from([(None, limits.max_data)])),
@@ -145,6 +169,23 @@ impl Course {
     }
 
     fn turn(&mut self, side: usize, room: usize) {
+        match self.way {
+            Way::Packets => self.turn_by_packets(side, room),
+            Way::Tokens => self.turn_by_tokens(side, room),
+        }
+    }
+
+    // Streams are accepted and events asked for, of either end, at no cost.
+    fn idle(&mut self) {
+        let side = self.random.below(2) as usize;
+        match self.random.below(6) {
+            0 => _ = self.ends[side].accept(),
+            1 => _ = self.ends[side].next_event().expect("there is memory"),
+            _ => {}
+        }
+    }
+
+    fn turn_by_packets(&mut self, side: usize, room: usize) {
         while let Some(number) = self.ends[side].next_outstanding(0) {
             assert_eq!(self.ends[side].declare_lost(number), Ok(()));
         }
@@ -152,6 +193,50 @@ impl Course {
             let came = self.ends[1 - side].receive(token.number, &text);
             assert_eq!(came, Ok(Received::Done));
             self.packets[side].push((token, text));
+            self.idle();
+        }
+    }
+
+    // Fills, of which the frames are taken at once; what landed is told at once or late, and all of the peer's by the end of the turn.
+    fn turn_by_tokens(&mut self, side: usize, room: usize) {
+        while let Some(number) = self.ends[side].next_outstanding(0) {
+            let token = self.ends[side].token_of(number);
+            assert_eq!(self.ends[side].lost(token), Ok(()));
+        }
+        while let Some((filled, text)) = fill_one(&mut self.ends[side], &Want::all(), room) {
+            self.take(side, &text);
+            self.packets[side].push((filled.token, text));
+            self.idle();
+            for told in 0..2 {
+                if self.random.chance(30) {
+                    self.tell(told);
+                }
+            }
+        }
+        self.tell(1 - side);
+        assert!(!self.ends[side].is_sendable());
+    }
+
+    // All frames of a packet come to the other end.
+    fn take(&mut self, side: usize, text: &[u8]) {
+        let frames = all_frames(text);
+        let took = self.ends[1 - side].take_frames(&frames);
+        assert!(took.is_ok(), "{took:?}");
+        self.taken[1 - side].extend(frames.iter().map(|frame| format!("{frame:?}")));
+    }
+
+    // Each packet of an end that landed, as the premise on tokens has it, is told to be acknowledged.
+    fn tell(&mut self, side: usize) {
+        let mut from = 0;
+        while let Some(number) = self.ends[side].next_outstanding(from) {
+            let of = |(token, _): &&(Token, Vec<u8>)| token.number == number;
+            let (token, text) = self.packets[side].iter().rev().find(of).expect("kept");
+            let taken = &self.taken[1 - side];
+            let has = |frame: &Frame| !must_land(frame) || taken.contains(&format!("{frame:?}"));
+            if all_frames(text).iter().all(has) {
+                assert_eq!(self.ends[side].acked(*token), Ok(()));
+            }
+            from = number + 1;
         }
     }
 
@@ -176,6 +261,7 @@ impl Course {
         let mut into = [0; 4096];
         while let Some(stream) = self.ends[side].next_readable(first()) {
             _ = self.ends[side].read(stream, &mut into).expect("readable");
+            self.idle();
         }
     }
 
@@ -284,17 +370,22 @@ impl Course {
         let place = random.below(self.packets[side].len().max(1) as u64) as usize;
         let number = random.below(3);
         match (random.below(4), self.packets[side].get(place)) {
-            (0, Some((token, text))) => {
+            (0, Some((token, text))) if self.way == Way::Packets => {
                 _ = refused(number, || self.ends[1 - side].receive(token.number, text));
             }
             (1, Some((token, text))) => {
-                let took = all_frames(text)
-                    .iter()
-                    .all(|frame| self.ends[1 - side].take_frame(frame).is_ok());
-                assert!(took);
-                _ = refused(number, || self.ends[side].acked(*token));
+                let (token, text) = (*token, text.clone());
+                self.take(side, &text);
+                _ = refused(number, || self.ends[side].acked(token));
             }
-            (2, _) => _ = refused(number, || self.ends[side].make_packet(&mut [0; 300])),
+            (2, _) => {
+                let mut out = [0; 300];
+                let made = refused(number, || self.ends[side].make_packet(&mut out)).0;
+                if let Ok(Some(made)) = made {
+                    let token = self.ends[side].token_of(made.number);
+                    self.packets[side].push((token, out[..made.len].to_vec()));
+                }
+            }
             _ => _ = refused(number, || self.ends[side].write(stream, &[7; 9])),
         }
     }
@@ -321,17 +412,14 @@ impl Course {
     // A packet comes frame by frame, and is acknowledged by its token.
     fn by_token(&mut self, side: usize, random: &mut Random) {
         let place = random.below(self.packets[side].len().max(1) as u64) as usize;
-        if let Some((token, text)) = self.packets[side].get(place) {
-            for frame in all_frames(text) {
-                let took = self.ends[1 - side].take_frame(&frame);
-                assert!(took.is_ok());
-            }
-            assert_eq!(self.ends[side].acked(*token), Ok(()));
+        if let Some((token, text)) = self.packets[side].get(place).cloned() {
+            self.take(side, &text);
+            assert_eq!(self.ends[side].acked(token), Ok(()));
         }
     }
 }
 
-fn random_course(seed: u64) -> Course {
+fn random_course(seed: u64, way: Way) -> Course {
     let mut random = Random::new(seed);
     let most = [1, 3, 16, 100, 512][(seed % 5) as usize];
     let window = 1 + random.below(most);
@@ -347,6 +435,7 @@ fn random_course(seed: u64) -> Course {
         .streams(1 + random.below(8), 64);
     let shares = [share(&mut random), share(&mut random)];
     let mut course = Course::new(settings, shares);
+    (course.way, course.random) = (way, Random::new(seed));
     for _ in 0..random.below(60) {
         course.anything(&mut random, window);
     }
@@ -369,15 +458,21 @@ fn random_course(seed: u64) -> Course {
 
 #[test]
 fn rest_comes_within_the_bound() {
+    for (way, how) in [(Way::Packets, "packets"), (Way::Tokens, "tokens")] {
+        within_the_bound(way, how);
+    }
+}
+
+fn within_the_bound(way: Way, how: &str) {
     let seeds =
         std::env::var("ROUNDS_SEEDS").map_or(SEEDS, |seeds| seeds.parse().expect("a number"));
     let (mut rounds, mut stretches, mut nearest) = (0, 0, [0.0_f64; 2]);
     for seed in 0..seeds {
-        let course = random_course(seed);
+        let course = random_course(seed, way);
         let seen = [(course.unread, READ), (course.busy, REST)];
         for (near, (seen, each)) in nearest.iter_mut().zip(seen) {
             let bound = course.bound(each);
-            assert!(seen <= bound, "seed {seed}: {seen} rounds, {bound}");
+            assert!(seen <= bound, "{how}, seed {seed}: {seen} rounds, {bound}");
             *near = near.max(seen as f64 / bound as f64);
         }
         rounds += course.busy;
@@ -385,7 +480,7 @@ fn rest_comes_within_the_bound() {
     }
     let [read, rest] = nearest;
     println!(
-        "{seeds} runs: {rounds} rounds and {stretches} stretches; {read:.3} of those until all is read that may be at most, {rest:.3} until rest"
+        "{seeds} runs by {how}: {rounds} rounds and {stretches} stretches; {read:.3} of those until all is read that may be at most, {rest:.3} until rest"
     );
     assert!(rounds > stretches);
 }

@@ -14,11 +14,12 @@ use Rattle.qs_rest.proofs.Streams.{each_credit_whole, each_reset_final}
 use Rattle.qs_rest.proofs.Delivered.{each_credit_ahead, each_delivered}
 use Rattle.qs_progress.specs.Score.{score}
 use Rattle.qs_progress.specs.Laps.{Moment, IsCalm, Trail, Lap}
-use Rattle.qs_progress.specs.Comes.{BothRest, BothOpen, IsReached, Course, steps_in, stretches_in, RestComes, IsComplete, AllComes}
+use Rattle.qs_progress.specs.Comes.{BothRest, BothOpen, IsReached, Course, RestComes, IsComplete, AllComes}
 use Rattle.qs_progress.proofs.Score.{what_is_done_stays}
 use Rattle.qs_progress.proofs.Bound.{is_below}
 use Rattle.qs_progress.proofs.Trails.{trail_open, reached, eased}
 use Rattle.qs_progress.proofs.Pairs.{laps_raise}
+use Rattle.qs_progress.proofs.Sums.{steps_in, stretches_in}
 
 -- what both ends did
 abbrev pub both : World → ℕ

@@ -23,7 +23,7 @@ use Rattle.qs_rest.specs.Rest.{HasMore}
 use Rattle.qs_progress.specs.Score.{score}
 use Rattle.qs_progress.specs.Laps.{Moment, IsCalm, Trail}
 use Rattle.qs_progress.specs.Outstanding.{IsIn}
-use Rattle.qs_progress.specs.Comes.{IsReached, steps_in}
+use Rattle.qs_progress.specs.Comes.{IsReached}
 use Rattle.qs_progress.specs.Rounds.{Happens}
 use Rattle.qs_progress.specs.Ending.{Carries, RoomyPacketsCarry, TellsNews, Does, CallsComeToAnEnd}
 use Rattle.qs_progress.proofs.Bound.{ahead_below}
@@ -35,6 +35,7 @@ use Rattle.qs_progress.proofs.Counting.{would, would_grow, would_put, would_read
 use Rattle.qs_progress.proofs.Trails.{reached}
 use Rattle.qs_progress.proofs.Pairs.{stood_in}
 use Rattle.qs_progress.proofs.Turns.{is_made}
+use Rattle.qs_progress.proofs.Sums.{steps_in}
 
 -- A packet that carries anything carries what is due
 

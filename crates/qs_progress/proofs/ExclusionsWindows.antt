@@ -31,5 +31,5 @@ window_exclusions =
       stream = refl;
       before = refl;
       unread = not_read;
-      begun = λ k parts old new all course. course.0 all;
+      begun = λ way k parts old new all course. course.0 all;
     }

@@ -6,7 +6,7 @@ use Rattle.std.proofs.lemmas.List.Sums.{sum_by-cons}
 use Rattle.std.proofs.lemmas.Nat.{le-div, div_below}
 use Rattle.qs_machine.specs.Ends.{End}
 use Rattle.qs_machine.specs.Credit.{all_sent}
-use Rattle.qs_progress.specs.Windows.{Widths, sent_on}
+use Rattle.qs_progress.specs.Windows.{Widths, sent_on, senders, filled}
 use Rattle.qs_progress.proofs.Sums.{sum_grows}
 
 -- so many whole parts are no more than there is
@@ -75,3 +75,12 @@ module _ (k : Widths) (old : End) (count : ℕ) (e f : End) (more : SentMore e f
       sum_more (λ n. (sent_on e n - sent_on old n) / suc (k.streams n)) (λ n. (sent_on f n - sent_on old n) / suc (k.streams n)) 0 count n stream_grows (omega arith) (omega (arith, lt))
       (parts_more (sent_on e n - sent_on old n) (sent_on f n - sent_on old n) (k.streams n) (omega (arith, low, fills))) in
       omega (arith, conn, streams)
+
+-- and from later to sooner no more is filled than from sooner to later
+pub filled_within : (k : Widths) (old first e f : End) → SentMore old first → SentMore e f → senders e ≤ senders f → filled k first e ≤ filled k old f
+filled_within k old first e f low high count =
+    let conn = parts_grow (all_sent e - all_sent first) (all_sent f - all_sent old) k.conn (let sooner = low.all in let later = high.all in omega (arith, sooner, later)) in
+    let streams =
+    sum_grows (λ n. (sent_on e n - sent_on first n) / suc (k.streams n)) (λ n. (sent_on f n - sent_on old n) / suc (k.streams n)) 0 (4 * senders e) (4 * senders f) (omega (arith, count))
+    (λ n. parts_grow (sent_on e n - sent_on first n) (sent_on f n - sent_on old n) (k.streams n) (let sooner = low.each n in let later = high.each n in omega (arith, sooner, later))) in
+    omega (arith, conn, streams)

@@ -150,7 +150,7 @@ pub recvs_twice : (base : End) (t u v : Tables RecvLane) → RecvsFrom base t u 
 recvs_twice base t u v a b = from_twice Same (Begun base) (λ l. refl) (λ l m k x y. y ∙ x) (λ n l m new is. is ∙ new) t u v a b
 
 -- streams of a type have a first window in common
-window_by : (e : End) (n m : ℕ) → m % 4 ≡ n % 4 → first_window e m ≡ first_window e n
+pub window_by : (e : End) (n m : ℕ) → m % 4 ≡ n % 4 → first_window e m ≡ first_window e n
 window_by e n m same = rw same refl
 
 recvs_opened : (base : End) (n : ℕ) (e : End) → but_streams e ≡ but_streams base → RecvsFrom base e.recvs (opened_by_peer n e).recvs

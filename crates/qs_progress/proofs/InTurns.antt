@@ -27,15 +27,16 @@ use Rattle.qs_progress.specs.Score.{score, one_if}
 use Rattle.qs_progress.specs.Bound.{most}
 use Rattle.qs_progress.specs.Laps.{Moment, IsCalm, Trail, Sometime}
 use Rattle.qs_progress.specs.Comes.{BothRest, BothOpen, IsReached}
-use Rattle.qs_progress.specs.Rounds.{Happens, Loses, Delivers, Sends, TakesTurn, IsRead, Round}
+use Rattle.qs_progress.specs.Rounds.{Packets, Happens, Delivers, TakesTurn, IsRead, Round}
 use Rattle.qs_progress.proofs.Score.{what_is_done_stays}
 use Rattle.qs_progress.proofs.Bound.{ahead_below}
 use Rattle.qs_progress.proofs.Trails.{reached, joined, last_of, trail_open}
 use Rattle.qs_progress.proofs.Passing.{IsClear}
-use Rattle.qs_progress.proofs.Turns.{is_made, passed, new_payload}
+use Rattle.qs_progress.proofs.Turns.{IsSame, as_was, Losses, Sends, is_made, passed, new_payload}
 use Rattle.qs_progress.proofs.Comes.{both}
-use Rattle.qs_progress.proofs.ComesInRounds.{Before, level, level_low, level_grows, round_leads, a_clear_mid, b_clear}
+use Rattle.qs_progress.proofs.ComesInRounds.{Led, Before, level, level_low, level_grows, round_leads, a_clear_mid, b_clear}
 use Rattle.qs_progress.proofs.Idles.{none_bare}
+use Rattle.qs_progress.proofs.InARow.{InARow}
 use Rattle.qs_progress.proofs.Ahead.{ahead, ahead_more}
 use Rattle.qs_progress.proofs.Waiting.{lose_less, frames_len}
 use Rattle.qs_progress.proofs.Counting.{would, due, would_grow, would_more, made_adds, read_adds}
@@ -60,15 +61,19 @@ Losing s (suc n) old new = (k : ℕ) × (mid : Moment) × Losing s n old mid × 
 
 abbrev pub Sending : Side → ℕ → Moment → Moment → Type 0
 Sending s zero old new = new ≡ old
-Sending s (suc n) old new = (mid : Moment) × Sending s n old mid × Delivers s mid new
+Sending s (suc n) old new = (mid : Moment) × Sending s n old mid × Delivers Packets s mid new
 
-lost_all : (s : Side) (n : ℕ) (old mid new : Moment) → Losing s n old mid → (j : ℕ) × Loses s j mid new → (j : ℕ) × Loses s j old new
-lost_all s zero old mid new is rest = subst (λ m. (j : ℕ) × Loses s j m new) is rest
-lost_all s (suc n) old mid new (k, at, before, happens) (j, rest) = lost_all s n old at new before (suc j, (k, mid, happens, rest))
+lost_all : (s : Side) (n : ℕ) (old mid new : Moment) → Losing s n old mid → (j : ℕ) × Losses Packets s j mid new → (j : ℕ) × Losses Packets s j old new
+lost_all s zero old mid new is rest = subst (λ m. (j : ℕ) × Losses Packets s j m new) is rest
+lost_all s (suc n) old mid new (k, at, before, happens) (j, rest) = lost_all s n old at new before (suc j, (mid, (k, happens), rest))
 
-sent_all : (s : Side) (n : ℕ) (old mid new : Moment) → Sending s n old mid → (j : ℕ) × Sends s j mid new → (j : ℕ) × Sends s j old new
-sent_all s zero old mid new is rest = subst (λ m. (j : ℕ) × Sends s j m new) is rest
+sent_all : (s : Side) (n : ℕ) (old mid new : Moment) → Sending s n old mid → (j : ℕ) × Sends Packets s j mid new → (j : ℕ) × Sends Packets s j old new
+sent_all s zero old mid new is rest = subst (λ m. (j : ℕ) × Sends Packets s j m new) is rest
 sent_all s (suc n) old mid new (at, before, passes) (j, rest) = sent_all s n old at new before (suc j, (mid, passes, rest))
+
+-- where neither end changed
+idle_ends : (v w : World) → w ≡ v → (s : Side) → IsSame (end_of v s) (end_of w s)
+idle_ends v w same s = as_was (end_of v s) (end_of w s) (ap (λ u. end_of u s) same)
 
 -- What is counted
 
@@ -97,7 +102,7 @@ module _ (a b : Settings) where
   fresh m (inl u) = true
   fresh m (inr past) = false
 
-  then_clear : (m : Moment) (before : Before a b m) → fresh m before ≡ false → (sent : Moment) → TakesTurn A m sent → IsClear sent.ends.b
+  then_clear : (m : Moment) (before : Before a b m) → fresh m before ≡ false → (sent : Moment) → TakesTurn Packets A m sent → IsClear sent.ends.b
   then_clear m (inl u) is sent turn = absurd (true≢false is)
   then_clear m (inr (past, r, round)) is sent turn = b_clear a b past m r round sent turn
 
@@ -105,7 +110,7 @@ module _ (a b : Settings) where
   up : (x : Happening) (old new : Moment) → IsReached a b old → Happens x old new → (s : Side) → score (end_of old.ends s) ≤ score (end_of new.ends s)
   up x old new r happens s = what_is_done_stays a b old.log old.ends new.ends x r.run happens.1 s (r.knows_first s)
 
-  up_both : (x : Happening) (old new : Moment) → IsReached a b old → Happens x old new → both old.ends ≤ both new.ends
+  pub up_both : (x : Happening) (old new : Moment) → IsReached a b old → Happens x old new → both old.ends ≤ both new.ends
   up_both x old new r happens = (let one = up x old new r happens A in let two = up x old new r happens B in omega (arith, one, two))
 
   none_held : (m : Moment) → IsReached a b m → (s : Side) → IsClear (end_of m.ends s) → (j : ℕ) → fmap.contains_key (end_of m.ends s).outstanding j ≡ true → ⊥
@@ -138,73 +143,75 @@ module _ (a b : Settings) where
       let same = ap (λ (e : End). fmap.len e.outstanding) x.took in
       omega (arith, few, same)
 
-  module _ (s0 w : ℕ) where
+  module _ (s0 w : ℕ) (origin : Moment) where
     -- a round began after so many
     pub record Begun (k : ℕ) (m : Moment) : Type 0 where
       pub at : IsReached a b m
       pub before : Before a b m
       pub rounds : k + s0 ≤ level a b m before
+      pub row : InARow origin k m
 
     abbrev IsAt : ℕ → ℕ → ℕ → ℕ → ℕ → ℕ → Moment → Type 0
     IsAt k n waits c pa pb now = n + waits + 2 * s0 ≤ w + 6 * k + c + 2 * (pa + pb)
 
     -- where it stands now
-    record Since (k : ℕ) (now : Moment) : Type 0 where
-      begins : Moment
-      base : Begun k begins
-      at : IsReached a b now
+    pub record Since (k : ℕ) (now : Moment) : Type 0 where
+      pub begins : Moment
+      pub base : Begun k begins
+      pub at : IsReached a b now
+      pub led : Led begins now
       grown : both begins.ends ≤ both now.ends
 
-    abbrev since_next : {k : ℕ} (x : Happening) (now new : Moment) → Since k now → Happens x now new → Since k new
+    abbrev pub since_next : {k : ℕ} (x : Happening) (now new : Moment) → Since k now → Happens x now new → Since k new
     since_next x now new it happens =
-        record { begins = it.begins; base = it.base; at = reached a b now new x it.at happens.0 happens.1; grown = omega (arith, up_both x now new it.at happens) }
+        record { begins = it.begins; base = it.base; at = reached a b now new x it.at happens.0 happens.1; led = (it.led.0 ++ new ∷ [], joined (λ call. ⊤) it.led.0 (new ∷ []) it.begins now new it.led.1 ((x, tt, happens.0, happens.1), refl)); grown = omega (arith, up_both x now new it.at happens) }
 
     -- whether no round was over before
     abbrev is_first : {k : ℕ} {now : Moment} → Since k now → Bool
     is_first it = fresh it.begins it.base.before
 
     -- A had its turn
-    record SinceA (k : ℕ) (now : Moment) : Type 0 where
-      since : Since k now
+    pub record SinceA (k : ℕ) (now : Moment) : Type 0 where
+      pub since : Since k now
       busy : BothRest since.begins.ends → ⊥
       sent_a : Moment
-      turn_a : TakesTurn A since.begins sent_a
+      turn_a : TakesTurn Packets A since.begins sent_a
 
     abbrev since_a_next : {k : ℕ} (x : Happening) (now new : Moment) → SinceA k now → Happens x now new → SinceA k new
     since_a_next x now new it happens = record { since = since_next x now new it.since happens; busy = it.busy; sent_a = it.sent_a; turn_a = it.turn_a }
 
     pub record LosesA (k n : ℕ) (now : Moment) : Type 0 where
-      since : Since k now
+      pub since : Since k now
       lost : (j : ℕ) × Losing A j since.begins now
       goes_on : (BothRest now.ends → ⊥) → BothRest since.begins.ends → ⊥
       clear : is_first since ≡ false → IsClear now.ends.a
       count : IsAt k n (left (is_first since) now.ends.a + left (is_first since) now.ends.b) 0 (floor (is_first since) now.ends.a) (floor (is_first since) now.ends.b) now
 
     pub record SendsA (k n : ℕ) (now : Moment) : Type 0 where
-      since : Since k now
+      pub since : Since k now
       from : Moment
-      lost : (j : ℕ) × Loses A j since.begins from
+      lost : (j : ℕ) × Losses Packets A j since.begins from
       sent : (j : ℕ) × Sending A j from now
       goes_on : (BothRest now.ends → ⊥) → BothRest since.begins.ends → ⊥
       count : IsAt k n (left (is_first since) now.ends.b + 2 * due A now) 2 (would A now) (floor (is_first since) now.ends.b) now
 
     pub record LosesB (k n : ℕ) (now : Moment) : Type 0 where
-      after : SinceA k now
+      pub after : SinceA k now
       lost : (j : ℕ) × Losing B j after.sent_a now
       clear : is_first after.since ≡ false → IsClear now.ends.b
       count : IsAt k n (left (is_first after.since) now.ends.b) 3 (would A now) (floor (is_first after.since) now.ends.b) now
 
     pub record SendsB (k n : ℕ) (now : Moment) : Type 0 where
-      after : SinceA k now
+      pub after : SinceA k now
       from : Moment
-      lost : (j : ℕ) × Loses B j after.sent_a from
+      lost : (j : ℕ) × Losses Packets B j after.sent_a from
       sent : (j : ℕ) × Sending B j from now
       count : IsAt k n (2 * due B now) 5 (would A now) (would B now) now
 
     pub record ReadsA (k n : ℕ) (now : Moment) : Type 0 where
-      after : SinceA k now
+      pub after : SinceA k now
       sent_b : Moment
-      turn_b : TakesTurn B after.sent_a sent_b
+      turn_b : TakesTurn Packets B after.sent_a sent_b
       moments : List Moment
       trail : Trail IsRead sent_b moments now
       count : IsAt k n 0 6 (would A now) (would B now) now
@@ -279,7 +286,7 @@ module _ (a b : Settings) where
     pub none_a : (k n : ℕ) (x : Happening) (now new : Moment) → SendsA k n now → (BothRest now.ends → ⊥) → Happens x now new → IsCalm x.call → new.ends ≡ now.ends → (Sendable now.ends.a → ⊥) → LosesB k (suc n) new
     none_a k n x now new st busy happens calm same none =
         let f = is_first st.since in
-        let turn : TakesTurn A st.since.begins new = (st.from, st.lost, sent_all A st.sent.0 st.from now new st.sent.1 (1, (new, inr (x, calm, happens, same), (refl, subst (λ v. Sendable v.a → ⊥) (sym same) none)))) in
+        let turn : TakesTurn Packets A st.since.begins new = (st.from, st.lost, sent_all A st.sent.0 st.from now new st.sent.1 (1, (new, inr (x, calm, happens, idle_ends now.ends new.ends same), (refl, (subst (λ v. Sendable v.a → ⊥) (sym same) none, λ is. absurd (cc is)))))) in
         let left_same : left f new.ends.b ≡ left f now.ends.b = ap (λ (v : World). left f v.b) same in
         let floor_same : floor f new.ends.b ≡ floor f now.ends.b = ap (λ (v : World). floor f v.b) same in
         let would_same : would A new ≡ would A now = ap (λ (v : World). score (ahead v.a)) same in
@@ -338,7 +345,7 @@ module _ (a b : Settings) where
 
     pub none_b : (k n : ℕ) (x : Happening) (now new : Moment) → SendsB k n now → Happens x now new → IsCalm x.call → new.ends ≡ now.ends → (Sendable now.ends.b → ⊥) → ReadsA k (suc n) new
     none_b k n x now new st happens calm same none =
-        let turn : TakesTurn B st.after.sent_a new = (st.from, st.lost, sent_all B st.sent.0 st.from now new st.sent.1 (1, (new, inr (x, calm, happens, same), (refl, subst (λ v. Sendable v.b → ⊥) (sym same) none)))) in
+        let turn : TakesTurn Packets B st.after.sent_a new = (st.from, st.lost, sent_all B st.sent.0 st.from now new st.sent.1 (1, (new, inr (x, calm, happens, idle_ends now.ends new.ends same), (refl, (subst (λ v. Sendable v.b → ⊥) (sym same) none, λ is. absurd (cc is)))))) in
         let same_a : would A new ≡ would A now = ap (λ (v : World). score (ahead v.a)) same in
         let same_b : would B new ≡ would B now = ap (λ (v : World). score (ahead v.b)) same in
         record {
@@ -383,7 +390,7 @@ module _ (a b : Settings) where
     over_read_b k n now st none unclosed =
         let r = st.reads in
         let since = r.after.since in
-        let round : Round since.begins now = record {
+        let round : Round Packets since.begins now = record {
           sent_a = r.after.sent_a;
           sent_b = r.sent_b;
           moments = r.moments;
@@ -392,15 +399,16 @@ module _ (a b : Settings) where
           reads = r.trail;
           none_to_read = λ s. by s;
         } in
-        let (ms, led) = round_leads since.begins now round in
+        let (ms, led) = round_leads Packets since.begins now round in
         let open_end = trail_open (λ call. ⊤) ms since.begins now led unclosed in
         let high = level_grows a b since.begins now since.base.before since.base.at open_end r.after.busy round in
         let rounds = since.base.rounds in
         record {
           since = record {
             begins = now;
-            base = record { at = since.at; before = inr (since.begins, since.base.at, round); rounds = omega (arith, rounds, high) };
+            base = record { at = since.at; before = inr (since.begins, since.base.at, round); rounds = omega (arith, rounds, high); row = (since.begins, since.base.row, r.after.busy, round) };
             at = since.at;
+            led = ([], refl);
             grown = omega arith;
           };
           lost = (0, refl);
@@ -458,10 +466,10 @@ module _ (a b : Settings) where
   abbrev pub waiting : World → ℕ
   waiting v = fmap.len v.a.outstanding + fmap.len v.b.outstanding
 
-  pub start : (m : Moment) → IsReached a b m → LosesA (both m.ends) (waiting m.ends + 1) 0 0 m
+  pub start : (m : Moment) → IsReached a b m → LosesA (both m.ends) (waiting m.ends + 1) m 0 0 m
   start m r =
       record {
-        since = record { begins = m; base = record { at = r; before = inl tt; rounds = omega arith }; at = r; grown = omega arith };
+        since = record { begins = m; base = record { at = r; before = inl tt; rounds = omega arith; row = ([], refl) }; at = r; led = ([], refl); grown = omega arith };
         lost = (0, refl);
         goes_on = λ not. not;
         clear = λ is. absurd (true≢false is);
@@ -469,7 +477,7 @@ module _ (a b : Settings) where
       }
 
   -- a packet that was made before may come first
-  pub start_came : (m new : Moment) (k : ℕ) (bytes : List ℕ) → IsReached a b m → IsNextOutstanding m.ends.a.outstanding 0 None → Happens (comes B k bytes) m new → SendsA (both m.ends) (waiting m.ends + 1) 0 1 new
+  pub start_came : (m new : Moment) (k : ℕ) (bytes : List ℕ) → IsReached a b m → IsNextOutstanding m.ends.a.outstanding 0 None → Happens (comes B k bytes) m new → SendsA (both m.ends) (waiting m.ends + 1) m 0 1 new
   start_came m new k bytes r none happens =
       let x = comes B k bytes in
       let up = up_both x m new r happens in
@@ -481,7 +489,7 @@ module _ (a b : Settings) where
       let more = would_more a b A new in
       let at = reached a b m new x r happens.0 happens.1 in
       record {
-        since = record { begins = new; base = record { at = at; before = inl tt; rounds = omega (arith, up) }; at = at; grown = omega arith };
+        since = record { begins = new; base = record { at = at; before = inl tt; rounds = omega (arith, up); row = (new ∷ [], ((x, tt, happens.0, happens.1), refl)) }; at = at; led = ([], refl); grown = omega arith };
         from = new;
         lost = (0, (refl, subst (λ (e : End). IsNextOutstanding e.outstanding 0 None) (sym happens.1.still) none));
         sent = (0, refl);

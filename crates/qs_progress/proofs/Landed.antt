@@ -1,7 +1,6 @@
 -- What an end's turn leaves: all that was sent of it came to the other end, which knows its limits.
 use Rattle.std.proofs.Common.{◌≡◌, ℕ, ◌+◌, ◌<◌, ◌≤◌, true, ◌⊎◌, length, if◌then◌else◌, Bool, not, false, List, Some, None, refl, sym, ap, ◌∙◌, subst, arith, inl, inr}
 use Rattle.std.specs.Prelude.{⊤}
-use Rattle.std.specs.FinSet as set
 use Rattle.std.proofs.lemmas.Bool.{cases_lt}
 use Rattle.std.proofs.lemmas.Option.{same_Some}
 use Rattle.qs_recv.specs.Lane.{RecvLane}
@@ -24,7 +23,7 @@ use Rattle.qs_machine.proofs.OffsetParts.{one_part}
 use Rattle.qs_machine.proofs.Pieces.{All_at}
 use Rattle.qs_runs.specs.Clauses.{HasArrived}
 use Rattle.qs_runs.specs.Invariant.{WorldOk}
-use Rattle.qs_runs.specs.Logs.{other, must_land}
+use Rattle.qs_runs.specs.Logs.{HasLanded, other, must_land}
 use Rattle.qs_runs.specs.Pasts.{Holds, past}
 use Rattle.qs_runs.specs.Worlds.{end_of}
 use Rattle.qs_runs.proofs.Clauses.{acked_has_arrived}
@@ -38,10 +37,11 @@ use Rattle.qs_rest.proofs.Resting.{taken}
 use Rattle.qs_rest.proofs.Runs.{every_run_keeps}
 use Rattle.qs_progress.specs.Laps.{Moment}
 use Rattle.qs_progress.specs.Outstanding.{IsIn}
-use Rattle.qs_progress.specs.Rounds.{TakesTurn}
+use Rattle.qs_progress.specs.Rounds.{Way, Packets, Tokens, TakesTurn}
 use Rattle.qs_progress.specs.Comes.{IsReached}
 use Rattle.qs_progress.proofs.Passing.{Owes, IsClear}
 use Rattle.qs_progress.proofs.Turns.{below_next, loses, loses_trail, sends, sends_all}
+use Rattle.qs_progress.proofs.ByTokens.{lands}
 use Rattle.qs_progress.proofs.Onward.{onward}
 
 limit_by : (u b : Bool) (x y z : ℕ) → (if u then x else (if not b then y else z)) ≡ (if u then x else (if b then z else y))
@@ -49,11 +49,11 @@ limit_by false true x y z = refl
 limit_by _ b x y z = refl
 
 module _ (a b : Settings) where
-  -- nothing more may go out of an end, and each packet of it that is outstanding was taken in by the other
+  -- nothing more may go out of an end, and each packet of it that is outstanding landed at the other
   pub record Landed (s : Side) (m : Moment) : Type 0 where
     pub is_reached : IsReached a b m
     pub none_to_send : HasMore (end_of m.ends s) → ⊥
-    pub came : (k : ℕ) (p : Piece) → IsIn (end_of m.ends s).outstanding k p → set.contains (end_of m.ends (other s)).done k ≡ true
+    pub came : (k : ℕ) (p : Piece) → IsIn (end_of m.ends s).outstanding k p → HasLanded m.log s k
 
   owes_none : (m : Moment) → IsReached a b m → (s : Side) → IsClear (end_of m.ends s) → Owes (end_of m.ends s).next (end_of m.ends s).next (end_of m.ends s) (end_of m.ends (other s))
   owes_none m r s clear =
@@ -65,13 +65,24 @@ module _ (a b : Settings) where
         due = λ k p here. absurd (clear k p here);
       }
 
-  pub turned : (s : Side) (old new : Moment) → IsReached a b old → TakesTurn s old new → Landed s new
-  turned s old new r (mid, (n, lost), (k, sent)) =
-      let after = loses s n old mid lost in
-      let (ms, trail) = loses_trail s n old mid lost in
+  pub turned : (w : Way) (s : Side) (old new : Moment) → IsReached a b old → TakesTurn w s old new → Landed s new
+  turned Packets s old new r (mid, (n, lost), (k, sent)) =
+      let after = loses Packets s n old mid lost in
+      let (ms, trail) = loses_trail Packets s n old mid lost in
       let r_mid = (onward a b (λ call. ⊤) ms old mid r trail).is_reached in
       let (there, owes) = sends a b s k mid new (end_of mid.ends s).next r_mid sent (owes_none mid r_mid s after.clear) in
-      record { is_reached = there; none_to_send = λ goes. sends_all s k mid new sent (inr goes); came = λ k p here. (let (low, high) = owes.from k p here in owes.kept k low high) }
+      let ok = run_keeps a b new.log new.ends there.run in
+      record {
+        is_reached = there;
+        none_to_send = λ goes. sends_all Packets s k mid new sent (inr goes);
+        came = λ j p here. (let (low, high) = owes.from j p here in ok.landed s j ((ok.ends (other s)).packets.is_done j (owes.kept j low high)));
+      }
+  turned Tokens s old new r (mid, (n, lost), (k, sent)) =
+      let after = loses Tokens s n old mid lost in
+      let (ms, trail) = loses_trail Tokens s n old mid lost in
+      let r_mid = (onward a b (λ call. ⊤) ms old mid r trail).is_reached in
+      let (there, landed) = lands a b s k mid new r_mid (λ j p here. absurd (after.clear j p here)) sent in
+      record { is_reached = there; none_to_send = λ goes. sends_all Tokens s k mid new sent (inr goes); came = landed }
 
   module _ (s : Side) (m : Moment) (landed : Landed s m) where
     abbrev e : End
@@ -89,7 +100,7 @@ module _ (a b : Settings) where
     -- what stands in a packet that is outstanding came
     frame_came : (g : Seen) (k : ℕ) (p : Piece) → IsIn e.outstanding k p → Holds (past s m.log).mine k g → must_land g ≡ true → HasArrived m.log s g
     frame_came g k p here (fs, is, among) land =
-        let (text, pay, all) = ok.landed s k ((ok.ends (other s)).packets.is_done k (landed.came k p here)) in
+        let (text, pay, all) = landed.came k p here in
         all g (subst (Among g) (same_Some fs (frames_in text) (sym is ∙ payload_seen s k m.log text pay)) among) land
 
     data_came : (n : ℕ) (c : Chunk) → IsOutstanding e (Data n c) → (bytes : List ℕ) × HasArrived m.log s (Stream n c.offset bytes c.fin) × (length bytes ≡ c.len) × (c.offset + length bytes ≤ c.offset + c.len)

@@ -25,6 +25,7 @@ pub mod TopRun
 pub mod Kept
 pub mod Passing
 pub mod Turns
+pub mod ByTokens
 pub mod ComesInRounds
 pub mod InTurns
 pub mod ExclusionsLaps
@@ -41,9 +42,11 @@ pub mod Counting
 pub mod Filled
 pub mod Onward
 pub mod Landed
+pub mod Clear
 pub mod Paid
 pub mod Charged
 pub mod Unwritten
+pub mod Wide
 pub mod ReadInRounds
 pub mod From
 pub mod Ceased
@@ -51,4 +54,5 @@ pub mod Eased
 pub mod Moves
 pub mod Tail
 pub mod RestInRounds
+pub mod InARow
 pub mod ExclusionsWindows

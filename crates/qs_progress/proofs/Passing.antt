@@ -74,7 +74,7 @@ module _ (k : ℕ) (p : Piece) where
   put_at (Control i) e here = noted_at (Told i) e here
   put_at f e here = inl here
 
-  fills_at : (old : End) (fs : List Seen) (e last : End) → Fills old e fs last → IsIn last.outstanding k p → IsIn e.outstanding k p ⊎ (k ≡ e.next)
+  pub fills_at : (old : End) (fs : List Seen) (e last : End) → Fills old e fs last → IsIn last.outstanding k p → IsIn e.outstanding k p ⊎ (k ≡ e.next)
   fills_at old [] e last is here = inl (subst (λ (x : End). IsIn x.outstanding k p) is here)
   fills_at old (f ∷ fs) e last (may, rest) here =
       let next : (frame_put f e).next ≡ e.next = ap (λ (x : End). x.next) (put_leaves f e) in

@@ -31,8 +31,8 @@ use Rattle.qs_rest.proofs.OneStream.{sender_ok, reader_ok, not_reset, no_reset_k
 use Rattle.qs_rest.proofs.Runs.{every_run_keeps}
 use Rattle.qs_rest.proofs.Telling.{no_news}
 use Rattle.qs_progress.specs.Laps.{Moment, Trail}
-use Rattle.qs_progress.specs.Comes.{BothOpen, IsReached, Course, steps_in, stretches_in}
-use Rattle.qs_progress.specs.Rounds.{IsRead, Round}
+use Rattle.qs_progress.specs.Comes.{BothOpen, IsReached, Course}
+use Rattle.qs_progress.specs.Rounds.{Way, IsRead, Round}
 use Rattle.qs_progress.specs.Windows.{Widths, senders, AreAsWide, WideRound, IsAllRead, AllIsReadInRounds}
 use Rattle.qs_progress.proofs.Trails.{trail_open}
 use Rattle.qs_progress.proofs.Filled.{filled_to, filled_grows, conn_fills, stream_fills}
@@ -40,7 +40,8 @@ use Rattle.qs_progress.proofs.Onward.{Later, later_same, later_twice, onward, se
 use Rattle.qs_progress.proofs.Landed.{Landed, turned, held_back}
 use Rattle.qs_progress.proofs.Paid.{has_read, paid_back}
 use Rattle.qs_progress.proofs.Charged.{knows, Turns, conn_charged, stream_charged}
-use Rattle.qs_progress.proofs.Unwritten.{IsUnwritten, Unwritten, then_on, turn_on, reads_on, written_same}
+use Rattle.qs_progress.proofs.Unwritten.{IsUnwritten, Unwritten, turn_on, reads_on, round_on, then_on, written_same}
+use Rattle.qs_progress.proofs.Sums.{steps_in, stretches_in}
 
 -- a moment of a trail parts it
 parted : (Is : Call → Type 0) (ms : List Moment) (old new m : Moment) → Trail Is old ms new → Among m (old ∷ ms) → ((ns : List Moment) × Trail Is old ns m) × ((ns : List Moment) × Trail Is m ns new)
@@ -79,18 +80,18 @@ module _ (a b : Settings) where
     pub after : (ns : List Moment) × Trail IsRead seen ns new
     pub quiet : (n : ℕ) (r : RecvLane) → receiving seen.ends s n ≡ Some r → TellsNoNews (read_answer r 1) r
 
-  module _ (old new : Moment) (r : IsReached a b old) (round : Round old new) (unclosed : BothOpen new.ends) where
+  module _ (w : Way) (old new : Moment) (r : IsReached a b old) (round : Round w old new) (unclosed : BothOpen new.ends) where
     a_landed : Landed a b A round.sent_a
-    a_landed = turned a b A old round.sent_a r round.turn_a
+    a_landed = turned a b w A old round.sent_a r round.turn_a
 
     b_landed : Landed a b B round.sent_b
-    b_landed = turned a b B round.sent_a round.sent_b a_landed.is_reached round.turn_b
+    b_landed = turned a b w B round.sent_a round.sent_b a_landed.is_reached round.turn_b
 
     to_a : Later a b old round.sent_a
-    to_a = led_to old round.sent_a r (turn_on A old round.sent_a round.turn_a)
+    to_a = led_to old round.sent_a r (turn_on w A old round.sent_a round.turn_a)
 
     pub a_to_b : Later a b round.sent_a round.sent_b
-    a_to_b = led_to round.sent_a round.sent_b a_landed.is_reached (turn_on B round.sent_a round.sent_b round.turn_b)
+    a_to_b = led_to round.sent_a round.sent_b a_landed.is_reached (turn_on w B round.sent_a round.sent_b round.turn_b)
 
     reads : Unwritten round.sent_b new
     reads = reads_on round.moments round.sent_b new round.reads
@@ -119,7 +120,7 @@ module _ (a b : Settings) where
     pub a_half : Half A old round.sent_a new
     a_half =
         let by = seen_by B in
-        let on = then_on round.sent_a round.sent_b new (turn_on B round.sent_a round.sent_b round.turn_b) reads in
+        let on = then_on round.sent_a round.sent_b new (turn_on w B round.sent_a round.sent_b round.turn_b) reads in
         record {
           landed = a_landed;
           to_sent = to_a;
@@ -208,7 +209,7 @@ module _ (a b : Settings) where
 
   -- Three rounds in a row
 
-  module _ (k : Side → Widths) (begun last : Moment) (room : (s : Side) → HasRoom last.ends s) where
+  module _ (w : Way) (k : Side → Widths) (begun last : Moment) (room : (s : Side) → HasRoom last.ends s) where
     abbrev pub filled_by : Side → Moment → ℕ
     filled_by s m = filled_to (k (other s)) (end_of begun.ends s) (4 * senders (end_of last.ends s)) (end_of m.ends s)
 
@@ -242,24 +243,19 @@ module _ (a b : Settings) where
     abbrev pub level_at : Moment → ℕ
     level_at m = filled_by A m + filled_by B m
 
-    abbrev pub level_of : (old new : Moment) → WideRound k old new → ℕ
+    abbrev pub level_of : (old new : Moment) → WideRound w k old new → ℕ
     level_of old new x = filled_by A x.0.sent_a + filled_by B x.0.sent_b
 
-    round_on : (old new : Moment) → Round old new → Unwritten old new
-    round_on old new r =
-        then_on old r.sent_a new (turn_on A old r.sent_a r.turn_a)
-        (then_on r.sent_a r.sent_b new (turn_on B r.sent_a r.sent_b r.turn_b) (reads_on r.moments r.sent_b new r.reads))
+    pub open_before : (old new : Moment) → WideRound w k old new → BothOpen new.ends → BothOpen old.ends
+    open_before old new x unclosed = (let (ms, trail) = round_on w old new x.0 in trail_open IsUnwritten ms old new trail unclosed)
 
-    pub open_before : (old new : Moment) → WideRound k old new → BothOpen new.ends → BothOpen old.ends
-    open_before old new x unclosed = (let (ms, trail) = round_on old new x.0 in trail_open IsUnwritten ms old new trail unclosed)
+    pub later_round : (old new : Moment) → IsReached a b old → WideRound w k old new → Later a b old new
+    later_round old new r x = led_to old new r (round_on w old new x.0)
 
-    pub later_round : (old new : Moment) → IsReached a b old → WideRound k old new → Later a b old new
-    later_round old new r x = led_to old new r (round_on old new x.0)
-
-    pub within : (old new : Moment) → IsReached a b old → (x : WideRound k old new) → BothOpen new.ends → (level_at old ≤ level_of old new x) × (level_of old new x ≤ level_at new)
+    pub within : (old new : Moment) → IsReached a b old → (x : WideRound w k old new) → BothOpen new.ends → (level_at old ≤ level_of old new x) × (level_of old new x ≤ level_at new)
     within old new r x unclosed =
-        let ha = a_half old new r x.0 unclosed in
-        let hb = b_half old new r x.0 unclosed in
+        let ha = a_half w old new r x.0 unclosed in
+        let hb = b_half w old new r x.0 unclosed in
         let a1 = fills_on A old x.0.sent_a ha.to_sent in
         let b1 = fills_on B old x.0.sent_b hb.to_sent in
         let a2 = fills_on A x.0.sent_a new ha.to_new in
@@ -267,7 +263,7 @@ module _ (a b : Settings) where
         (omega (arith, a1, b1), omega (arith, a2, b2))
 
     -- where the third of three rounds fills no more than the first, all is read
-    module _ (m0 m1 m2 m3 : Moment) (r0 : IsReached a b m0) (x1 : WideRound k m0 m1) (x2 : WideRound k m1 m2) (x3 : WideRound k m2 m3) (since : Later a b begun m0) (until : Later a b m3 last) (unclosed : BothOpen m3.ends) where
+    module _ (m0 m1 m2 m3 : Moment) (r0 : IsReached a b m0) (x1 : WideRound w k m0 m1) (x2 : WideRound w k m1 m2) (x3 : WideRound w k m2 m3) (since : Later a b begun m0) (until : Later a b m3 last) (unclosed : BothOpen m3.ends) where
       open_2 : BothOpen m2.ends
       open_2 = open_before m2 m3 x3 unclosed
 
@@ -281,22 +277,22 @@ module _ (a b : Settings) where
       to_2 = later_round m1 m2 to_1.is_reached x2
 
       a1 : Half A m0 x1.0.sent_a m1
-      a1 = a_half m0 m1 r0 x1.0 open_1
+      a1 = a_half w m0 m1 r0 x1.0 open_1
 
       b1 : Half B m0 x1.0.sent_b m1
-      b1 = b_half m0 m1 r0 x1.0 open_1
+      b1 = b_half w m0 m1 r0 x1.0 open_1
 
       a2 : Half A m1 x2.0.sent_a m2
-      a2 = a_half m1 m2 to_1.is_reached x2.0 open_2
+      a2 = a_half w m1 m2 to_1.is_reached x2.0 open_2
 
       b2 : Half B m1 x2.0.sent_b m2
-      b2 = b_half m1 m2 to_1.is_reached x2.0 open_2
+      b2 = b_half w m1 m2 to_1.is_reached x2.0 open_2
 
       a3 : Half A m2 x3.0.sent_a m3
-      a3 = a_half m2 m3 to_2.is_reached x3.0 unclosed
+      a3 = a_half w m2 m3 to_2.is_reached x3.0 unclosed
 
       b3 : Half B m2 x3.0.sent_b m3
-      b3 = b_half m2 m3 to_2.is_reached x3.0 unclosed
+      b3 = b_half w m2 m3 to_2.is_reached x3.0 unclosed
 
       a_turns : Turns a b A x1.0.sent_a a1.seen m1 x2.0.sent_b x3.0.sent_a
       a_turns =
@@ -353,7 +349,7 @@ module _ (a b : Settings) where
     -- so many led here
     abbrev pub Row : ℕ → Moment → Type 0
     Row zero old = IsReached a b old × Later a b begun old
-    Row (suc n) old = (m : Moment) × Row n m × WideRound k m old
+    Row (suc n) old = (m : Moment) × Row n m × WideRound w k m old
 
     pub row_led : (n : ℕ) (old : Moment) → Row n old → IsReached a b old × Later a b begun old
     row_led zero old row = row
@@ -387,7 +383,7 @@ module _ (a b : Settings) where
         omega (arith, few, up.0, up.1)
 
     -- one more fills no less
-    more : (n : ℕ) (old new : Moment) (row : Row n old) (y : WideRound k old new) → BothOpen new.ends → level n old row ≤ level (suc n) new (old, row, y)
+    more : (n : ℕ) (old new : Moment) (row : Row n old) (y : WideRound w k old new) → BothOpen new.ends → level n old row ≤ level (suc n) new (old, row, y)
     more zero old new row y unclosed = omega arith
     more (suc zero) old new (m, row, x) y unclosed =
         let up = within m old (row_led 0 m row).0 x (open_before old new y unclosed) in
@@ -397,8 +393,8 @@ module _ (a b : Settings) where
 
     -- Courses: where each round that begins where this doesn't hold, after so many others in a row, fills more than the first of these did
 
-    module _ (P : Moment → Type 0) (depth : ℕ) (fills_more : (n : ℕ) → depth ≤ n → n ≤ depth → (old new : Moment) (row : Row n old) (y : WideRound k old new) → Later a b old last → BothOpen old.ends → (P old → ⊥) → level n old row + 1 ≤ level n new (row_rest n new (old, row, y))) where
-      course_later : (parts : List Bool) (old : Moment) → IsReached a b old → Course (WideRound k) P parts old last → Later a b old last
+    module _ (P : Moment → Type 0) (depth : ℕ) (fills_more : (n : ℕ) → depth ≤ n → n ≤ depth → (old new : Moment) (row : Row n old) (y : WideRound w k old new) → Later a b old last → BothOpen old.ends → (P old → ⊥) → level n old row + 1 ≤ level n new (row_rest n new (old, row, y))) where
+      course_later : (parts : List Bool) (old : Moment) → IsReached a b old → Course (WideRound w k) P parts old last → Later a b old last
       course_later [] old r is = subst (Later a b old) (sym is) (later_same a b old r)
       course_later (true ∷ parts) old r (begins, mid, step, rest) =
           let first = later_round old mid r step in
@@ -407,12 +403,12 @@ module _ (a b : Settings) where
           let first = onward a b (λ call. ⊤) ms old mid r stretch in
           later_twice a b old mid last first (course_later parts mid first.is_reached rest)
 
-      course_open : (parts : List Bool) (old : Moment) → Course (WideRound k) P parts old last → BothOpen last.ends → BothOpen old.ends
+      course_open : (parts : List Bool) (old : Moment) → Course (WideRound w k) P parts old last → BothOpen last.ends → BothOpen old.ends
       course_open [] old is unclosed = subst (λ (m : Moment). BothOpen m.ends) is unclosed
       course_open (true ∷ parts) old (begins, mid, step, rest) unclosed = open_before old mid step (course_open parts mid rest unclosed)
       course_open (false ∷ parts) old (ms, mid, stretch, rest) unclosed = trail_open (λ call. ⊤) ms old mid stretch (course_open parts mid rest unclosed)
 
-      pub courses : (parts : List Bool) (old : Moment) (n : ℕ) → n ≤ depth → (row : Row n old) → Course (WideRound k) P parts old last → BothOpen last.ends →
+      pub courses : (parts : List Bool) (old : Moment) (n : ℕ) → n ≤ depth → (row : Row n old) → Course (WideRound w k) P parts old last → BothOpen last.ends →
           steps_in parts + level n old row + n ≤ 2 * level_at last + depth * stretches_in parts + depth
       courses [] old n few row is unclosed =
           let same : last ≡ old = is in
@@ -442,7 +438,7 @@ module _ (a b : Settings) where
           let parted : depth * (stretches_in parts + 1) ≡ depth * stretches_in parts + depth = omega arith in
           omega (arith, few, below, up_a, up_b, counted, parted)
 
-    read_fills : (n : ℕ) → 3 ≤ n → n ≤ 3 → (old new : Moment) (row : Row n old) (y : WideRound k old new) → Later a b old last → BothOpen old.ends → (IsAllRead old → ⊥) → level n old row + 1 ≤ level n new (row_rest n new (old, row, y))
+    read_fills : (n : ℕ) → 3 ≤ n → n ≤ 3 → (old new : Moment) (row : Row n old) (y : WideRound w k old new) → Later a b old last → BothOpen old.ends → (IsAllRead old → ⊥) → level n old row + 1 ≤ level n new (row_rest n new (old, row, y))
     read_fills (suc (suc (suc zero))) ge le old new (m2, (m1, (m0, start, x1), x2), x3) y until unclosed begins =
         elim (cases_lt (level_of m0 m1 x1) (level_of m2 old x3)) [
           | inl lt ↦ omega (arith, lt)
@@ -452,6 +448,6 @@ module _ (a b : Settings) where
     read_fills n ge le old new row y until unclosed begins = absurd (omega (arith, ge))
 
 pub all_is_read_in_rounds : AllIsReadInRounds
-all_is_read_in_rounds a b k parts old new r course unclosed room =
-    let counted = courses a b k old new room IsAllRead 3 (read_fills a b k old new room) parts old 0 (omega arith) (r, later_same a b old r) course unclosed in
+all_is_read_in_rounds w a b k parts old new r course unclosed room =
+    let counted = courses a b w k old new room IsAllRead 3 (read_fills a b w k old new room) parts old 0 (omega arith) (r, later_same a b old r) course unclosed in
     omega (arith, counted)

@@ -45,7 +45,7 @@ use Rattle.qs_runs.proofs.Histories.{two_sides}
 use Rattle.qs_runs.proofs.NewEnds.{each_begun}
 use Rattle.qs_runs.proofs.Runs.{run_keeps}
 use Rattle.qs_runs.proofs.Standing.{certain_cases}
-use Rattle.qs_progress.specs.Bound.{bytes_in, written_at, streams_at, set_beyond, most}
+use Rattle.qs_progress.specs.Bound.{bytes_in, streams_at, set_beyond, most}
 
 -- Lists and tables
 
@@ -206,7 +206,7 @@ module _ (a b : Settings) (h : History) (w : World) (ok : WorldOk a b h w) (s : 
       let half = subst (SendSlot (past s h) n _) at ((ok.ends s).sends n) in
       omega (arith, half.count, written_due n (effects s h))
 
-  written_few : written_on (end_of w s) ≤ written_at s h
+  written_few : written_on (end_of w s) ≤ sum_by bytes_in (effects s h)
   unfolding total
   written_few = (let few = sum_covered (λ kind (l : SendLane). l.written) (end_of w s).sends (written_account (effects s h)) half_written in omega (arith, few, written_all (effects s h)))
 

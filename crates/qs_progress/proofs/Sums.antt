@@ -1,10 +1,11 @@
 -- Sums that grow.
-use Rattle.std.proofs.Common.{◌≡◌, ℕ, zero, suc, ◌+◌, ◌-◌, ◌≤◌, Bool, true, Option, sum_by, refl, arith}
+use Rattle.std.proofs.Common.{◌≡◌, ℕ, zero, suc, ◌+◌, ◌-◌, ◌≤◌, Bool, true, not, List, Option, sum_by, refl, arith}
 use Rattle.std.specs.List.{range_with_len}
 use Rattle.std.proofs.lemmas.Bool.Decides.{nat_tests}
 use Rattle.std.proofs.lemmas.List.Sums.{sum_by-cons}
 use Rattle.qs_machine.specs.Tables.{Tables, lookup}
 use Rattle.qs_machine.proofs.TablesAfter.{KeptIn}
+use Rattle.qs_progress.specs.Comes.{how_many}
 use Rattle.qs_progress.specs.Score.{one_if, told_from, marks_of}
 
 pub le_same : (n : ℕ) → n ≤ n
@@ -33,3 +34,10 @@ marks_grow {X} R f g t u kept grows n = go (lookup t n) refl
   where
     go : (o : Option X) → lookup t n ≡ o → marks_of f o ≤ marks_of g (lookup u n)
     go o is = grind (arith, nat_tests)
+
+-- how many parts of a course are steps, and how many are stretches
+abbrev pub steps_in : List Bool → ℕ
+steps_in parts = how_many (λ step. step) parts
+
+abbrev pub stretches_in : List Bool → ℕ
+stretches_in parts = how_many not parts

@@ -1,7 +1,7 @@
 -- Turns: what one end sends is acknowledged once the other's turn is over.
 use Rattle.std.proofs.lemmas.Bool.Decides.{nat_tests}
 use Rattle.std.proofs.Common.{◌≡◌, ℕ, zero, suc, ◌<◌, true, false, List, [], ◌∷◌, ◌++◌, append-nil, ◌⊎◌, length, slice_get, Option, Some, None, is_some, refl, sym, ap, ◌∙◌, subst, arith, inl, inr}
-use Rattle.std.specs.Prelude.{⊤, Ok, Err, flat_map, ◌+◌}
+use Rattle.std.specs.Prelude.{⊤, Result, Ok, Err, flat_map, ◌+◌, ◌-◌}
 use Rattle.std.specs.FinMap as fmap
 use Rattle.std.specs.FinSet as set
 use Rattle.std.proofs.lemmas.Bool.{true≢false, or_left, or_right}
@@ -15,7 +15,12 @@ use Rattle.qs_calls.specs.declared.closing.Received.TheVariants.{Done}
 use Rattle.qs_calls.specs.declared.event.Side.{Side}
 use Rattle.qs_calls.specs.declared.making.Made.{Made}
 use Rattle.qs_calls.specs.declared.making.MakeFault.{MakeFault}
+use Rattle.qs_calls.specs.declared.making.LostFault.{LostFault}
+use Rattle.qs_calls.specs.declared.making.LostFault.TheVariants as losing
 use Rattle.qs_calls.specs.declared.settings.Settings.{Settings}
+use Rattle.qs_calls.specs.declared.token.Token.{Token}
+use Rattle.qs_calls.specs.declared.token.TokenFault.{TokenFault}
+use Rattle.qs_machine.specs.Alone.{LosesEach, TokenLostStep, lost_answer, token_refusal}
 use Rattle.qs_machine.specs.Ends.{End}
 use Rattle.qs_machine.specs.Seen.{Seen, Plain, seen_all, asks_ack, any_asks}
 use Rattle.qs_machine.specs.Plains.{frames_in, is_plain}
@@ -29,7 +34,7 @@ use Rattle.qs_machine.specs.Lawful.{Fills}
 use Rattle.qs_machine.specs.Filling.{FillAt, IsFilled, as_made}
 use Rattle.qs_machine.specs.Making.{IsMade, MakeAt, LoseStep, losses, make_refusal, claim_refusal}
 use Rattle.qs_machine.specs.Receiving.{ReceiveStep, ReceiveBy}
-use Rattle.qs_machine.specs.EndStep.{Call, Answer, EndStep, Receive, Make, MakeAck, FillIn, Claim, Lose}
+use Rattle.qs_machine.specs.EndStep.{Call, Answer, EndStep, Receive, Make, MakeAck, FillIn, Claim}
 use Rattle.qs_machine.proofs.Plains.{differ_covers, differ_turned}
 use Rattle.qs_machine.proofs.Ways.{payload_frames, ack_packet}
 use Rattle.qs_runs.specs.Logs.{Happening, History, other, made, payload, effects_of, sent_in, ping_text}
@@ -44,9 +49,32 @@ use Rattle.qs_runs.proofs.Wire.{text_seen, ping_seen}
 use Rattle.qs_progress.specs.Laps.{Moment, IsCalm, Trail}
 use Rattle.qs_progress.specs.Comes.{IsReached}
 use Rattle.qs_progress.specs.Outstanding.{IsIn}
-use Rattle.qs_progress.specs.Rounds.{Happens, Loses, Sends}
-use Rattle.qs_progress.proofs.Trails.{reached}
+use Rattle.qs_progress.specs.Rounds.{Way, Packets, Tokens, Happens, Until, Loses, Delivers, IsTold}
+use Rattle.qs_progress.proofs.Trails.{reached, joined}
 use Rattle.qs_progress.proofs.Passing.{Passed, Owes, IsClear, MayBe, NamesTop, named_top, owes_more, answers, still_clear}
+
+-- the losses of an end, and what it sends, so many of each
+abbrev pub Losses : Way → Side → ℕ → Moment → Moment → Type 0
+Losses w s n old new = Until (Loses w s) (λ m. IsNextOutstanding (end_of m.ends s).outstanding 0 None) n old new
+
+abbrev pub Sends : Way → Side → ℕ → Moment → Moment → Type 0
+Sends w s n old new = Until (Delivers w s) (λ m. (Sendable (end_of m.ends s) → ⊥) × IsTold w (other s) m) n old new
+
+-- Idle calls
+
+-- an end may have accepted streams, and is as it was
+abbrev pub IsSame : End → End → Type 0
+IsSame e f = f ≡ record e { accepted_bidi = f.accepted_bidi; accepted_uni = f.accepted_uni }
+
+pub as_was : (e f : End) → f ≡ e → IsSame e f
+as_was e f is = subst (IsSame e) (sym is) refl
+
+-- what goes by no count of accepted streams stays
+pub same_as : {X : Type 0} (of : End → X) (e f : End) → IsSame e f → ((bidi uni : ℕ) → of (record e { accepted_bidi = bidi; accepted_uni = uni }) ≡ of e) → of f ≡ of e
+same_as of e f is free = ap of is ∙ free f.accepted_bidi f.accepted_uni
+
+pub same_out : (e f : End) → IsSame e f → f.outstanding ≡ e.outstanding
+same_out e f is = same_as (λ y. y.outstanding) e f is (λ bidi uni. refl)
 
 -- Losses
 
@@ -72,55 +100,88 @@ none_lost e k (p ∷ ps) there clear = absurd (clear k p (p ∷ ps, there, inl r
 one_lost : (e f : End) (k : ℕ) → LoseStep e k (Ok tt) f → Lost e f
 one_lost e f k step = grind (arith, nat_tests, certain_cases, losses_leave, none_lost)
 
+-- a packet that isn't outstanding leaves it as it was
+none_out : (e f : End) (k : ℕ) → LoseStep e k (Err losing.NotOutstanding) f → f ≡ e
+none_out e f k step = grind (arith, nat_tests, certain_cases)
+
 -- after its losses nothing of an end is outstanding, and the other end is as it was
 pub record HasLost (s : Side) (old new : Moment) : Type 0 where
   pub here : Lost (end_of old.ends s) (end_of new.ends s)
   pub there : end_of new.ends (other s) ≡ end_of old.ends (other s)
   pub clear : IsClear (end_of new.ends s)
 
-pub loses : (s : Side) (n : ℕ) (old new : Moment) → Loses s n old new → HasLost s old new
-loses s zero old new (is, none) =
+lost_twice : (e f g : End) → Lost e f → Lost f g → Lost e g
+lost_twice e f g x y = record { done = y.done ∙ x.done; due = y.due ∙ x.due; same = λ clear. let first = x.same clear in y.same (subst IsClear (sym first) clear) ∙ first }
+
+loses_one : (declared : Result (Unit {0}) LostFault) (e f : End) (k : ℕ) → LoseStep e k declared f → ◌≡◌ {A = Result (Unit {0}) TokenFault} (Ok tt) (lost_answer declared) → Lost e f
+loses_one (Ok done) e f k step told = one_lost e f k step
+loses_one (Err losing.NotOutstanding) e f k step told = subst (Lost e) (sym (none_out e f k step)) (lost_same e)
+loses_one (Err losing.NoMemory) e f k step told = absurd cc
+loses_one (Err losing.Closed) e f k step told = absurd cc
+
+each_lost : (n first : ℕ) (e f : End) → LosesEach n first e (Ok tt) f → Lost e f
+each_lost zero first e f (told, is) = subst (Lost e) (sym is) (lost_same e)
+each_lost (suc n) first e f (inl (mid, (declared, step, told), rest)) = lost_twice e mid f (loses_one declared e mid (first + n) step told) (each_lost n first mid f rest)
+each_lost (suc n) first e f (inr (fault, one, is)) = absurd cc
+
+token_lost : (e f : End) (t : Token) → TokenLostStep e t (Ok tt) f → Lost e f
+token_lost e f t step =
+    elim (certain_cases (token_refusal e t) e (Ok tt) f _ step) [
+      | inl (fault, refused, same) ↦ absurd (cc refused)
+      | inr (allowed, each) ↦ each_lost ((t.number + 1) - t.first) t.first e f each
+    ]
+
+loss_leaves : (w : Way) (s : Side) (old new : Moment) → Loses w s old new → Lost (end_of old.ends s) (end_of new.ends s) × (end_of new.ends (other s) ≡ end_of old.ends (other s))
+loss_leaves Packets s old new (k, (logged, step)) = (one_lost (end_of old.ends s) (end_of new.ends s) k step.step, step.still)
+loss_leaves Tokens s old new (t, (logged, step)) = (token_lost (end_of old.ends s) (end_of new.ends s) t step.step, step.still)
+
+pub loses : (w : Way) (s : Side) (n : ℕ) (old new : Moment) → Losses w s n old new → HasLost s old new
+loses w s zero old new (is, none) =
     subst (HasLost s old) (sym is)
     (record { here = lost_same (end_of old.ends s); there = refl; clear = λ k p (ps, at, among). true≢false (sym (ap is_some at) ∙ none k (omega arith)) })
-loses s (suc n) old new (k, mid, (logged, step), rest) =
-    let one = one_lost (end_of old.ends s) (end_of mid.ends s) k step.step in
-    let more = loses s n mid new rest in
-    record {
-      here = record {
-        done = more.here.done ∙ one.done;
-        due = more.here.due ∙ one.due;
-        same = λ clear. let first = one.same clear in more.here.same (subst IsClear (sym first) clear) ∙ first;
-      };
-      there = more.there ∙ step.still;
-      clear = more.clear;
-    }
+loses w s (suc n) old new (mid, step, rest) =
+    let (one, still) = loss_leaves w s old mid step in
+    let more = loses w s n mid new rest in
+    record { here = lost_twice (end_of old.ends s) (end_of mid.ends s) (end_of new.ends s) one more.here; there = more.there ∙ still; clear = more.clear }
 
-pub loses_none : (s : Side) (n : ℕ) (old new : Moment) → Loses s n old new → IsNextOutstanding (end_of new.ends s).outstanding 0 None
-loses_none s zero old new (is, none) = subst (λ (m : Moment). IsNextOutstanding (end_of m.ends s).outstanding 0 None) (sym is) none
-loses_none s (suc n) old new (k, mid, happens, rest) = loses_none s n mid new rest
+pub loses_none : (w : Way) (s : Side) (n : ℕ) (old new : Moment) → Losses w s n old new → IsNextOutstanding (end_of new.ends s).outstanding 0 None
+loses_none w s zero old new (is, none) = subst (λ (m : Moment). IsNextOutstanding (end_of m.ends s).outstanding 0 None) (sym is) none
+loses_none w s (suc n) old new (mid, happens, rest) = loses_none w s n mid new rest
 
-pub loses_trail : (s : Side) (n : ℕ) (old new : Moment) → Loses s n old new → (ms : List Moment) × Trail (λ call. ⊤) old ms new
-loses_trail s zero old new (is, none) = ([], is)
-loses_trail s (suc n) old new (k, mid, (logged, step), rest) =
-    let (ms, trail) = loses_trail s n mid new rest in
-    (mid ∷ ms, ((record { end = s; call = Lose k; answer = Ok tt }, tt, logged, step), trail))
+loss_trail : (w : Way) (s : Side) (old new : Moment) → Loses w s old new → Trail (λ call. ⊤) old (new ∷ []) new
+loss_trail Packets s old new (k, (logged, step)) = ((_, tt, logged, step), refl)
+loss_trail Tokens s old new (t, (logged, step)) = ((_, tt, logged, step), refl)
+
+pub loses_trail : (w : Way) (s : Side) (n : ℕ) (old new : Moment) → Losses w s n old new → (ms : List Moment) × Trail (λ call. ⊤) old ms new
+loses_trail w s zero old new (is, none) = ([], is)
+loses_trail w s (suc n) old new (mid, step, rest) =
+    let (ms, trail) = loses_trail w s n mid new rest in
+    (mid ∷ ms, joined (λ call. ⊤) (mid ∷ []) ms old mid new (loss_trail w s old mid step) trail)
 
 -- What an end sends
 
 -- it is a trail
-pub sends_trail : (s : Side) (n : ℕ) (old new : Moment) → Sends s n old new → (ms : List Moment) × Trail IsCalm old ms new
-sends_trail s zero old new (is, none) = ([], is)
-sends_trail s (suc n) old new (mid, inl (call, answer, bytes, at, calm, (logged, make), (logged_too, receive)), rest) =
-    let (ms, trail) = sends_trail s n mid new rest in
-    (at ∷ mid ∷ ms, ((_, calm, logged, make), ((_, tt, logged_too, receive), trail)))
-sends_trail s (suc n) old new (mid, inr (x, calm, (logged, step), same), rest) =
-    let (ms, trail) = sends_trail s n mid new rest in
-    (mid ∷ ms, ((x, calm, logged, step), trail))
+delivery_trail : (w : Way) (s : Side) (old new : Moment) → Delivers w s old new → (ms : List Moment) × Trail IsCalm old ms new
+delivery_trail Packets s old new (inl (call, answer, bytes, at, calm, (logged, make), (logged_too, receive))) = (at ∷ new ∷ [], ((_, calm, logged, make), ((_, tt, logged_too, receive), refl)))
+delivery_trail Packets s old new (inr (x, calm, (logged, step), same)) = (new ∷ [], ((x, calm, logged, step), refl))
+delivery_trail Tokens s old new (inl (want, room, filled, text, frames, taken, at, seen, (logged, fill), (logged_too, take))) = (at ∷ new ∷ [], ((_, tt, logged, fill), ((_, tt, logged_too, take), refl)))
+delivery_trail Tokens s old new (inr (inl (t, token, (logged, step)))) = (new ∷ [], ((_, tt, logged, step), refl))
+delivery_trail Tokens s old new (inr (inr (x, calm, (logged, step), same))) = (new ∷ [], ((x, calm, logged, step), refl))
+
+pub sends_trail : (w : Way) (s : Side) (n : ℕ) (old new : Moment) → Sends w s n old new → (ms : List Moment) × Trail IsCalm old ms new
+sends_trail w s zero old new (is, over) = ([], is)
+sends_trail w s (suc n) old new (mid, step, rest) =
+    let (ms, first) = delivery_trail w s old mid step in
+    let (ns, more) = sends_trail w s n mid new rest in
+    (ms ++ ns, joined IsCalm ms ns old mid new first more)
 
 -- and ends where nothing may go
-pub sends_all : (s : Side) (n : ℕ) (old new : Moment) → Sends s n old new → Sendable (end_of new.ends s) → ⊥
-sends_all s zero old new (is, none) = subst (λ (m : Moment). Sendable (end_of m.ends s) → ⊥) (sym is) none
-sends_all s (suc n) old new (mid, passes, rest) = sends_all s n mid new rest
+pub sends_over : (w : Way) (s : Side) (n : ℕ) (old new : Moment) → Sends w s n old new → (Sendable (end_of new.ends s) → ⊥) × IsTold w (other s) new
+sends_over w s zero old new (is, over) = subst (λ (m : Moment). (Sendable (end_of m.ends s) → ⊥) × IsTold w (other s) m) (sym is) over
+sends_over w s (suc n) old new (mid, step, rest) = sends_over w s n mid new rest
+
+pub sends_all : (w : Way) (s : Side) (n : ℕ) (old new : Moment) → Sends w s n old new → Sendable (end_of new.ends s) → ⊥
+sends_all w s n old new sent = (sends_over w s n old new sent).0
 
 -- What is received
 
@@ -142,16 +203,16 @@ none_there : (texts : List (List ℕ)) (text : List ℕ) → slice_get (texts ++
 none_there texts text is = grind (arith, nat_tests, slice_get_within, slice_get, append-nil)
 
 -- an end made its next packet, with this text
-record Makes (e e2 : End) (text : List ℕ) : Type 0 where
-  frames : List Seen
-  last : End
-  filled : Fills e e frames last
-  made : e2 ≡ settle (record last { next = e.next + 1 })
-  names : (g : Seen) (at : End) → Among g frames → MayBe e at g → NamesTop e g
-  reads : (g : Seen) → Among g frames → Among g (frames_in text)
-  back : (g : Seen) → Among g (frames_in text) → is_plain g ≡ false → Among g frames
+pub record Makes (e e2 : End) (text : List ℕ) : Type 0 where
+  pub frames : List Seen
+  pub last : End
+  pub filled : Fills e e frames last
+  pub made : e2 ≡ settle (record last { next = e.next + 1 })
+  pub names : (g : Seen) (at : End) → Among g frames → MayBe e at g → NamesTop e g
+  pub reads : (g : Seen) → Among g frames → Among g (frames_in text)
+  pub back : (g : Seen) → Among g (frames_in text) → is_plain g ≡ false → Among g frames
 
-makes : (e e2 : End) (first delay room : ℕ) (made_it : Made) (text : List ℕ) → IsMade e first delay room made_it text e2 → Makes e e2 text
+pub makes : (e e2 : End) (first delay room : ℕ) (made_it : Made) (text : List ℕ) → IsMade e first delay room made_it text e2 → Makes e e2 text
 makes e e2 first delay room made_it text it =
     let (last, filled, ends) = it.lawful.filled in
     record {
@@ -164,7 +225,7 @@ makes e e2 first delay room made_it text it =
       back = λ g among unplain. subst (Among g) (text_seen delay it.frames text it.lawful.some it.spells) among;
     }
 
-is_filled : (o : Option MakeFault) (e new : End) (want : Fill) (room : ℕ) (filled : Filled) (text : List ℕ) → FillAt o e want room (Ok (Some filled)) text new → IsFilled e want room filled text new
+pub is_filled : (o : Option MakeFault) (e new : End) (want : Fill) (room : ℕ) (filled : Filled) (text : List ℕ) → FillAt o e want room (Ok (Some filled)) text new → IsFilled e want room filled text new
 is_filled None e new want room filled text step = step
 is_filled (Some fault) e new want room filled text step = absurd (cc step.0)
 
@@ -211,6 +272,21 @@ any_among f (g ∷ fs) (inr later) asks = or_right (asks_ack g) _ (any_among f f
 
 pub other_twice : (s : Side) → other (other s) ≡ s
 other_twice s = grind (arith, nat_tests)
+
+-- what is owed stays so where an end is as it was but for what it has taken or put
+pub owes_as : (lo hi : ℕ) (e e2 f f2 : End) → e2.outstanding ≡ e.outstanding → f2.done ≡ f.done → f2.ack_due ≡ f.ack_due → Owes lo hi e f → Owes lo hi e2 f2
+owes_as lo hi e e2 f f2 out done due owes =
+    record {
+      order = owes.order;
+      from = λ k p here. owes.from k p (subst (λ m. IsIn m k p) out here);
+      kept = λ k low high. subst (λ s. set.contains s k ≡ true) (sym done) (owes.kept k low high);
+      below = λ k is. owes.below k (subst (λ s. set.contains s k ≡ true) done is);
+      due = λ k p here. due ∙ owes.due k p (subst (λ m. IsIn m k p) out here);
+    }
+
+owes_same : (lo hi : ℕ) (e e2 f f2 : End) → IsSame e e2 → IsSame f f2 → Owes lo hi e f → Owes lo hi e2 f2
+owes_same lo hi e e2 f f2 x y owes =
+    owes_as lo hi e e2 f f2 (same_out e e2 x) (same_as (λ z. z.done) f f2 y (λ bidi uni. refl)) (same_as (λ z. z.ack_due) f f2 y (λ bidi uni. refl)) owes
 
 -- In a run
 
@@ -280,22 +356,24 @@ module _ (a b : Settings) where
         no_plain g is = grind (arith, nat_tests)
 
     -- The turn of an end: what the other end owes it grows
-    pub sends : (n : ℕ) (old new : Moment) (lo : ℕ) → IsReached a b old → Sends s n old new → Owes lo (end_of old.ends s).next (end_of old.ends s) (end_of old.ends (other s))
+    pub sends : (n : ℕ) (old new : Moment) (lo : ℕ) → IsReached a b old → Sends Packets s n old new → Owes lo (end_of old.ends s).next (end_of old.ends s) (end_of old.ends (other s))
         → IsReached a b new × Owes lo (end_of new.ends s).next (end_of new.ends s) (end_of new.ends (other s))
-    sends zero old new lo r (is, none) owes = subst (λ (m : Moment). IsReached a b m × Owes lo (end_of m.ends s).next (end_of m.ends s) (end_of m.ends (other s))) (sym is) (r, owes)
+    sends zero old new lo r (is, over) owes = subst (λ (m : Moment). IsReached a b m × Owes lo (end_of m.ends s).next (end_of m.ends s) (end_of m.ends (other s))) (sym is) (r, owes)
     sends (suc n) old new lo r (mid, inl (call, answer, bytes, at, calm, make, receive), rest) owes =
         let (there, x) = passed old at mid call answer bytes r make receive in
         sends n mid new lo there rest (owes_more (end_of old.ends s) (end_of mid.ends s) (end_of old.ends (other s)) (end_of mid.ends (other s)) x lo owes)
     sends (suc n) old new lo r (mid, inr (x, calm, (logged, step), same), rest) owes =
-        sends n mid new lo (reached a b old mid x r logged step) rest (subst (λ w. Owes lo (end_of w s).next (end_of w s) (end_of w (other s))) (sym same) owes)
+        sends n mid new lo (reached a b old mid x r logged step) rest
+        (subst (λ k. Owes lo k (end_of mid.ends s) (end_of mid.ends (other s))) (sym (same_as (λ y. y.next) (end_of old.ends s) (end_of mid.ends s) (same s) (λ bidi uni. refl)))
+        (owes_same lo (end_of old.ends s).next (end_of old.ends s) (end_of mid.ends s) (end_of old.ends (other s)) (end_of mid.ends (other s)) (same s) (same (other s)) owes))
 
     -- and what it owes the other it tells
-    abbrev IsTold : ℕ → ℕ → Moment → Type 0
-    IsTold lo hi m = Owes lo hi (end_of m.ends (other s)) (end_of m.ends s) ⊎ IsClear (end_of m.ends (other s))
+    abbrev IsHeard : ℕ → ℕ → Moment → Type 0
+    IsHeard lo hi m = Owes lo hi (end_of m.ends (other s)) (end_of m.ends s) ⊎ IsClear (end_of m.ends (other s))
 
-    pub tells : (n : ℕ) (old new : Moment) (lo hi : ℕ) → IsReached a b old → Sends s n old new → IsTold lo hi old → IsClear (end_of new.ends (other s))
-    tells zero old new lo hi r (is, none) (inl owes) = subst (λ (m : Moment). IsClear (end_of m.ends (other s))) (sym is) (λ k p here. none (inl (owes.due k p here)))
-    tells zero old new lo hi r (is, none) (inr clear) = subst (λ (m : Moment). IsClear (end_of m.ends (other s))) (sym is) clear
+    pub tells : (n : ℕ) (old new : Moment) (lo hi : ℕ) → IsReached a b old → Sends Packets s n old new → IsHeard lo hi old → IsClear (end_of new.ends (other s))
+    tells zero old new lo hi r (is, over) (inl owes) = subst (λ (m : Moment). IsClear (end_of m.ends (other s))) (sym is) (λ k p here. over.0 (inl (owes.due k p here)))
+    tells zero old new lo hi r (is, over) (inr clear) = subst (λ (m : Moment). IsClear (end_of m.ends (other s))) (sym is) clear
     tells (suc n) old new lo hi r (mid, inl (call, answer, bytes, at, calm, make, receive), rest) told =
         let (there, x) = passed old at mid call answer bytes r make receive in
         tells n mid new lo hi there rest (elim told [
@@ -303,4 +381,8 @@ module _ (a b : Settings) where
           | inr clear ↦ inr (still_clear (end_of old.ends s) (end_of mid.ends s) (end_of old.ends (other s)) (end_of mid.ends (other s)) x clear)
         ])
     tells (suc n) old new lo hi r (mid, inr (x, calm, (logged, step), same), rest) told =
-        tells n mid new lo hi (reached a b old mid x r logged step) rest (subst (λ w. Owes lo hi (end_of w (other s)) (end_of w s) ⊎ IsClear (end_of w (other s))) (sym same) told)
+        tells n mid new lo hi (reached a b old mid x r logged step) rest
+        (elim told [
+          | inl owes ↦ inl (owes_same lo hi (end_of old.ends (other s)) (end_of mid.ends (other s)) (end_of old.ends s) (end_of mid.ends s) (same (other s)) (same s) owes)
+          | inr clear ↦ inr (λ k p here. clear k p (subst (λ m. IsIn m k p) (same_out (end_of old.ends (other s)) (end_of mid.ends (other s)) (same (other s))) here))
+        ])

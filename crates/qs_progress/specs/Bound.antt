@@ -20,10 +20,7 @@ abbrev pub bytes_in : Effect → ℕ
 bytes_in (Wrote n bytes) = length bytes
 bytes_in x = 0
 
--- how many bytes were written at an end, and how many streams it opened
-abbrev pub written_at : Side → History → ℕ
-written_at s h = sum_by bytes_in (effects s h)
-
+-- how many streams an end opened
 abbrev pub streams_at : End → ℕ
 streams_at e = length (table e.sends (own_type e Bidi)) + length (table e.sends (own_type e Uni))
 
@@ -37,7 +34,7 @@ set_beyond e call answer = 0
 -- what can be done for good, and no more
 abbrev pub most : History → World → ℕ
 most h w =
-    9 * (written_at A h + written_at B h) + 20 * (streams_at w.a + streams_at w.b) + 6 + 3 * sum_by (λ x. set_beyond (end_of w x.end) x.call x.answer) h
+    9 * (sum_by bytes_in (effects A h) + sum_by bytes_in (effects B h)) + 20 * (streams_at w.a + streams_at w.b) + 6 + 3 * sum_by (λ x. set_beyond (end_of w x.end) x.call x.answer) h
 
 -- in every run, once both ends know the first limits: what was done for good is no more
 abbrev pub DoneIsBounded : Type 0

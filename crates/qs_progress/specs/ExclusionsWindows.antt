@@ -1,6 +1,7 @@
 -- Of laws.
 -- How wide a window is less its step, what fills it, and where not all is read. The whole file is ours.
-use Rattle.std.specs.Prelude.{◌≡◌, ℕ, Bool, true, List, [], ◌∷◌}
+use Rattle.std.specs.Prelude.{◌≡◌, ℕ, ◌+◌, ◌≤◌, Bool, true, List, [], ◌∷◌}
+use Rattle.qs_recv.specs.Lane.{step}
 use Rattle.qs_recv.specs.declared.credit.Share.{Share}
 use Rattle.qs_recv.specs.declared.credit.Share.TheVariants.{Half, Sixteenth}
 use Rattle.qs_calls.specs.declared.event.Side.{Side}
@@ -10,11 +11,16 @@ use Rattle.qs_runs.specs.Examples.{wrote}
 use Rattle.qs_progress.specs.Exclusions.{two}
 use Rattle.qs_progress.specs.Laps.{Moment}
 use Rattle.qs_progress.specs.Comes.{Course}
-use Rattle.qs_progress.specs.Windows.{Widths, IsAsWide, WideRound, filled, IsAllRead}
+use Rattle.qs_progress.specs.Rounds.{Way}
+use Rattle.qs_progress.specs.Windows.{Widths, WideRound, filled, IsAllRead}
 
 -- widths of the connection, and of each stream
 abbrev pub widths : ℕ → ℕ → Widths
 widths conn stream = record { conn = conn; streams = λ n. stream }
+
+-- a window less its step
+abbrev pub IsAsWide : (width window : ℕ) → Share → Type 0
+IsAsWide width window share = width + step share window ≤ window
 
 pub record WindowExclusions : Type 0 where
   -- a window less its step of a half or a sixteenth is so wide, and no wider; one byte has no width
@@ -33,4 +39,4 @@ pub record WindowExclusions : Type 0 where
   -- not all is read where bytes that were written weren't
   pub unread : IsAllRead (record { log = wrote A abc 3 ∷ []; ends = two }) → ⊥
   -- and of a course none counts that begins where all was
-  pub begun : (k : Side → Widths) (parts : List Bool) (old new : Moment) → IsAllRead old → Course (WideRound k) IsAllRead (true ∷ parts) old new → ⊥
+  pub begun : (way : Way) (k : Side → Widths) (parts : List Bool) (old new : Moment) → IsAllRead old → Course (WideRound way k) IsAllRead (true ∷ parts) old new → ⊥

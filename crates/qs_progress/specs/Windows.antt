@@ -1,10 +1,9 @@
 -- Trusted.
 -- All that is written is read in time, and rest comes, and a number of windows bounds how many rounds that takes. The whole file is ours, but
 -- that a clause names its section of RFC 9000.
-use Rattle.std.specs.Prelude.{◌≡◌, ℕ, suc, ◌+◌, ◌-◌, ◌*◌, ◌/◌, ◌≤◌, Bool, false, List, None, Some}
+use Rattle.std.specs.Prelude.{◌≡◌, ℕ, suc, ◌+◌, ◌-◌, ◌*◌, ◌/◌, ◌≤◌, Bool, false, not, List, None, Some}
 use Rattle.std.specs.List.{range_with_len, sum_by}
 use Rattle.qs_recv.specs.Lane.{RecvLane, step}
-use Rattle.qs_recv.specs.declared.credit.Share.{Share}
 use Rattle.qs_send.specs.Lane.{SendLane}
 use Rattle.qs_calls.specs.declared.settings.Settings.{Settings}
 use Rattle.qs_calls.specs.declared.event.Side.{Side}
@@ -16,27 +15,28 @@ use Rattle.qs_runs.specs.Logs.{other, stopped, broken_off, written, read}
 use Rattle.qs_runs.specs.Worlds.{end_of}
 use Rattle.qs_rest.specs.Resting.{HasRoom}
 use Rattle.qs_progress.specs.Laps.{Moment}
-use Rattle.qs_progress.specs.Rounds.{Round}
-use Rattle.qs_progress.specs.Comes.{Course, steps_in, stretches_in, IsReached, BothOpen, BothRest, IsComplete}
+use Rattle.qs_progress.specs.Rounds.{Way, Round}
+use Rattle.qs_progress.specs.Comes.{Course, how_many, IsReached, BothOpen, BothRest, IsComplete}
 
 -- how wide an end's windows are at least, each less its step: that of the connection, and that of each stream
 pub record Widths : Type 0 where
   pub conn : ℕ
   pub streams : ℕ → ℕ
 
--- a window less its step, which is what a reader leaves of it at least, less one (RFC 9000, section 4.2)
-abbrev pub IsAsWide : (width window : ℕ) → Share → Type 0
-IsAsWide width window share = width + step share window ≤ window
-
--- so wide are an end's windows: of the connection, of each stream that is open, and of each one that isn't yet
+-- so wide are an end's windows less their steps: of the connection, of each stream that is open, and of each one that isn't yet. So much
+-- a reader leaves of a window at least, less one (RFC 9000, section 4.2).
 pub record AreAsWide (k : Widths) (e : End) : Type 0 where
-  pub conn : IsAsWide k.conn e.present.conn_window e.tuning.credit_step
-  pub opened : (n : ℕ) (r : RecvLane) → recv_lane e n ≡ Some r → IsAsWide (k.streams n) r.window r.share
-  pub unopened : (n : ℕ) → recv_lane e n ≡ None → IsAsWide (k.streams n) (first_window e n) e.tuning.credit_step
+  pub conn : k.conn + step e.tuning.credit_step e.present.conn_window ≤ e.present.conn_window
+  pub opened : (n : ℕ) (r : RecvLane) → recv_lane e n ≡ Some r → k.streams n + step r.share r.window ≤ r.window
+  pub unopened : (n : ℕ) → recv_lane e n ≡ None → k.streams n + step e.tuning.credit_step (first_window e n) ≤ first_window e n
 
 -- a round that leaves them so
-abbrev pub WideRound : (Side → Widths) → Moment → Moment → Type 0
-WideRound k old new = Round old new × ((s : Side) → AreAsWide (k s) (end_of new.ends s))
+abbrev pub WideRound : Way → (Side → Widths) → Moment → Moment → Type 0
+WideRound way k old new = Round way old new × ((s : Side) → AreAsWide (k s) (end_of new.ends s))
+
+-- ROUNDS LEAVE WINDOWS AS WIDE: nothing is set in one.
+abbrev pub RoundsLeaveWidths : Type 0
+RoundsLeaveWidths = (way : Way) (k : Side → Widths) (old new : Moment) → ((s : Side) → AreAsWide (k s) (end_of old.ends s)) → Round way old new → WideRound way k old new
 
 -- how many bytes of a stream were sent
 abbrev pub sent_on : End → ℕ → ℕ
@@ -57,9 +57,9 @@ filled k old new =
 -- where this doesn't hold, two for each width that is filled, so many for each stretch, and as many.
 abbrev pub ComesByWindows : ℕ → (Moment → Type 0) → Type 0
 ComesByWindows each P =
-    (a b : Settings) (k : Side → Widths) (parts : List Bool) (old new : Moment) → IsReached a b old → Course (WideRound k) P parts old new →
-    BothOpen new.ends → ((s : Side) → HasRoom new.ends s) →
-    steps_in parts ≤ 2 * (filled (k B) old.ends.a new.ends.a + filled (k A) old.ends.b new.ends.b) + each * stretches_in parts + each
+    (way : Way) (a b : Settings) (k : Side → Widths) (parts : List Bool) (old new : Moment) → IsReached a b old →
+    Course (λ v w. Round way v w × ((s : Side) → AreAsWide (k s) (end_of w.ends s))) P parts old new → BothOpen new.ends → ((s : Side) → HasRoom new.ends s) →
+    how_many (λ step. step) parts ≤ 2 * (filled (k B) old.ends.a new.ends.a + filled (k A) old.ends.b new.ends.b) + each * how_many not parts + each
 
 -- all that was written was read, but on streams that were broken off or stopped
 abbrev pub IsAllRead : Moment → Type 0

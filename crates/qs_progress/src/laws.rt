@@ -7,7 +7,7 @@ ghost use Rattle.qs_progress.specs.Bound.{DoneIsBounded};
 ghost use Rattle.qs_progress.specs.Outstanding.{WhatIsOutStays};
 ghost use Rattle.qs_progress.specs.Going.{WhatGoesOutIsNew};
 ghost use Rattle.qs_progress.specs.Comes.{RestComes, AllComes};
-ghost use Rattle.qs_progress.specs.Windows.{AllIsReadInRounds, RestComesInRounds, AllComesInRounds};
+ghost use Rattle.qs_progress.specs.Windows.{RoundsLeaveWidths, AllIsReadInRounds, RestComesInRounds, AllComesInRounds};
 ghost use Rattle.qs_progress.specs.Ending.{CallsComeToAnEnd, RoomyPacketsCarry};
 ghost use Rattle.qs_progress.specs.Exclusions.{Exclusions};
 ghost use Rattle.qs_progress.specs.ExclusionsLaps.{LapExclusions};
@@ -66,7 +66,7 @@ pub fn all_comes()
     ensures { AllComes }
 {}
 
-/// By rounds, too: two for each width of a window that is filled, five for each stretch, and five.
+/// By rounds, too, by packets as by tokens: two for each width of a window that is filled, five for each stretch, and five.
 pub fn rest_comes_in_rounds()
     ensures { RestComesInRounds }
 {}
@@ -110,6 +110,11 @@ pub fn ending_exclusions()
 /// All that is written is read in time: a number of windows that are filled bounds how many rounds begin before that.
 pub fn all_is_read_in_rounds()
     ensures { AllIsReadInRounds }
+{}
+
+/// A round leaves windows as wide as they were.
+pub fn rounds_leave_widths()
+    ensures { RoundsLeaveWidths }
 {}
 
 /// How wide windows are, what fills them, and where not all is read.

@@ -100,7 +100,7 @@ module _ (text : Vec ℕ) (none : text.items ≡ []) where
 pub comes_exclusions : ComesExclusions
 comes_exclusions =
     record {
-      too_many = λ old new a b six fine comes. let few = comes fine in absurd (omega (arith, few, a, b, six));
+      too_many = λ old new a b six fine comes. let few = (comes fine).0 in absurd (omega (arith, few, a, b, six));
       in_part = refl;
       again = refl;
       in_whole = refl;

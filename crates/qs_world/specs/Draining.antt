@@ -27,7 +27,7 @@ use Rattle.qs_calls.specs.declared.settings.Settings.{Settings}
 use Rattle.qs_world.specs.declared.report.Report.{Report}
 use Rattle.qs_world.specs.Reports.{IsReport}
 use Rattle.qs_world.specs.Plays.{Played, HasPlayed, PlayOf}
-use Rattle.qs_world.specs.Comes.{ComesToRest}
+use Rattle.qs_world.specs.Comes.{makes_none, ComesToRest}
 
 -- nothing but an ACK may go out of an end, no packet of its own is outstanding, and no stream has news for its reader: what `is_sendable`,
 -- `next_outstanding` and `next_readable` tell (RFC 9000, sections 2.2 and 13.3)
@@ -73,12 +73,6 @@ abbrev pub IsOver : Turn → World → Type 0
 IsOver (turns.Lose s) w = (k : ℕ) → k ≤ MAX_VARINT → fmap.contains_key (end_of w s).outstanding k ≡ false
 IsOver (turns.Make s) w = ⊥
 IsOver (turns.Read s) w = IsLeast (IsReadable (end_of w s)) 0 None
-
--- the answer tells that no packet was made
-abbrev pub makes_none : Answer → Bool
-makes_none (answers.Make (Ok (Some made)) text) = false
-makes_none (answers.Make answer text) = true
-makes_none answer = false
 
 -- the turn after an event with this answer: one that makes packets is over once none is made
 abbrev pub turn_after : Turn → Answer → Turn

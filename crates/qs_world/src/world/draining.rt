@@ -59,7 +59,7 @@ impl World {
     /// that there is to read. Each event stands in [`World::log`] with its answer, as by [`World::happen`].
     ///
     /// Where no call is refused they come to rest, and a number bounds the events: one for each packet that is outstanding, eight for each
-    /// thing that can be done for good, and thirteen.
+    /// thing that can be done for good, and thirteen. Another bounds the rounds: two for each window less its step that is filled, and six.
     ///
     /// At rest all is done: what was written was read, unless its stream was reset or stopped, all credit is back, and resets and stops
     /// have come to their end.
