@@ -1,7 +1,8 @@
 //! What the application and the transport may ask of an endpoint. Nothing changes.
 ghost use Rattle.std.specs.Prelude.{◌≡◌, ◌↔◌, IsTrue, ◌-◌, ◌^◌, min};
 ghost use Rattle.qs_machine.specs.Credit.{all_taken, credit_for, window_left};
-ghost use Rattle.qs_machine.specs.Asking.{GoesBesideAck, all_noted, taken, peer_closing, noted_closing, streams_left, open_left, is_blocked, credit_left, room, unsent, acked_below, stopped_with, IsNextOutstanding, IsPeeked, all_unsent, all_kept};
+ghost use Rattle.qs_machine.specs.Asking.{GoesBesideAck, all_noted, taken, peer_closing, noted_closing, streams_left, open_left, is_blocked, credit_left, room, unsent, acked_below, stopped_with, IsNextOutstanding, all_unsent, all_kept};
+ghost use Rattle.qs_machine.specs.EndStep.{EndStep, Peek as ToPeek};
 ghost use Rattle.qs_machine.specs.Ends.{send_lane};
 ghost use Rattle.qs_machine.specs.Sums.{or_none};
 ghost use Rattle.qs_conn.specs.Sending.{credit_room};
@@ -61,7 +62,7 @@ impl Endpoint {
     /// Refused as `read` is.
     #[tactic(auto, using(crate::proofs::Hearing::peek_refused, crate::proofs::Hearing::receiver_open))]
     pub fn peek(&self, stream: StreamId) -> Result<Peek<'_>, UseFault>
-        ensures { IsPeeked self.now stream result }
+        ensures call { EndStep self.now (ToPeek stream) result self.now }
     {
         if let Some(fault) = self.no_reader(stream) {
             return Err(fault);
