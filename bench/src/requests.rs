@@ -95,6 +95,9 @@ impl Requests {
         assert_eq!(server.read(stream, &mut bytes), Ok(Read::Reset(CANCELLED)));
         hand_on(server, client);
         poll(client);
+        // An owner that leaves a reset unread keeps the stream open.
+        assert_eq!(client.read(stream, &mut bytes), Ok(Read::Reset(CANCELLED)));
+        poll(client);
         hand_on(client, server);
         poll(server);
     }

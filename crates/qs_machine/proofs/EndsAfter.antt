@@ -288,7 +288,7 @@ mid_reset n code size e v sound =
     (subst (λ o. IsOk (check_reset (or_new o 0 Half) size)) is (reset_checked e (opened_by_peer n e) n code size v refl)))
 
 pub mid_allow : (n m : ℕ) (e : End) → IsAfter (opened_by_peer n e) (on_send n (λ l. allow_lane l m) (opened_by_peer n e))
-mid_allow n m e = after_send n (λ l. allow_lane l m) (opened_by_peer n e) (λ l is. (record { limit = omega arith; written = omega arith; refused = λ is. is; stopped = λ is. is; broken = λ is. is; ended = λ is. is; told = record { code = λ c is. is; reset = λ is. is; finished = λ is. is } }))
+mid_allow n m e = after_send n (λ l. allow_lane l m) (opened_by_peer n e) (λ l is. (record { limit = omega arith; written = omega arith; refused = λ is. is; stopped = λ is. is; broken = λ is. is; ended = λ is. is; told = record { code = λ c is. is; reset = λ is. is; finished = λ is. is; own = λ is. is; quiet = λ own is. refl } }))
 
 pub mid_stop : (answers : Bool) (n code : ℕ) (e : End) → IsAfter (opened_by_peer n e) (on_send n (λ l. stop_taken answers l code) (opened_by_peer n e))
 mid_stop answers n code e = after_send n (λ l. stop_taken answers l code) (opened_by_peer n e) (λ l is. half_stopped answers l code)

@@ -1,24 +1,20 @@
 -- What an owner isn't told, and what a call notes and doesn't.
-use Rattle.std.proofs.Common.{◌≡◌, ℕ, Bool, true, false, not, ◌&&◌, ◌||◌, ◌==◌, cond, Some, None, refl, sym, ap, ◌∙◌, subst, arith, inl, is_some}
+use Rattle.std.proofs.Common.{◌≡◌, ℕ, true, false, cond, Some, None, refl, sym, ap, ◌∙◌, subst, arith, inl}
 use Rattle.std.specs.FinSet as set
 use Rattle.std.specs.Ordering.{nat_cmp}
 use Rattle.std.proofs.lemmas.Option.{same_Some, none-some}
 use Rattle.std.proofs.lemmas.Bool.{false≢true, true≢false, both_ways}
 use Rattle.std.proofs.lemmas.Bool.Decides.{nat_tests}
-use Rattle.qs_recv.specs.Lane.{RecvLane}
 use Rattle.qs_recv.specs.News.{is_readable, tells_something}
 use Rattle.qs_recv.specs.declared.half.Read.TheVariants as reads
-use Rattle.qs_send.specs.Lane.{SendLane}
-use Rattle.qs_calls.specs.declared.news.News.{News}
 use Rattle.qs_calls.specs.declared.news.News.TheVariants.{Opened, Readable, Stopped, ResetAcked}
 use Rattle.qs_machine.specs.Tables.{lookup}
 use Rattle.qs_machine.specs.Ends.{End}
-use Rattle.qs_machine.specs.News.{IsReadable}
 use Rattle.qs_machine.specs.Heard.{ComesBefore}
-use Rattle.qs_machine.specs.Hearing.{Hearing, heard_nothing, IsNews, IsFirstNews}
-use Rattle.qs_machine.specs.SmallEnds.{server_with, fresh, all_came, only}
+use Rattle.qs_machine.specs.Hearing.{Hearing, heard_nothing, IsNews}
+use Rattle.qs_machine.specs.SmallEnds.{server_with, fresh, all_came}
 use Rattle.qs_machine.specs.ExclusionsHeard.{reset_came}
-use Rattle.qs_machine.specs.ExclusionsOwning.{first, heard_one, told_first, NoNewsOf, NotToldSo, CallsNote, NotNotedSo, NotOverYet, NotOwnedSo}
+use Rattle.qs_machine.specs.ExclusionsOwning.{first, told_first, NoNewsOf, NotToldSo, CallsNote, NotNotedSo, NotOverYet, NotOwnedSo}
 use Rattle.qs_machine.proofs.EveryCall.{not_chosen}
 use Rattle.qs_machine.proofs.Tellings.{contains_marked, contains_unmarked}
 use Rattle.qs_machine.proofs.ExclusionsOwner.{held_by, nothing_readable, only_is}

@@ -42,3 +42,4 @@ pub mod NewlyTold
 pub mod Foreign
 pub mod Tellings
 pub mod Owning
+mod LateStops

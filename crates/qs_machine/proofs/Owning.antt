@@ -1,11 +1,11 @@
 -- No news is lost: whatever is called, what an owner would hear of it hears of still.
 --     sends_told       what was heard of sending halves stays, across every call
 --     MarksStay        what a call notes
-use Rattle.std.proofs.Common.{◌≡◌, ℕ, zero, suc, ◌<◌, ◌&&◌, ◌||◌, ◌==◌, Bool, true, false, not, List, [], ◌∷◌, length, take, max, slice_get, Option, None, Some, is_some, Result, Ok, Err, refl, sym, ap, ◌∙◌, subst, arith, inl, inr}
+use Rattle.std.proofs.Common.{◌≡◌, ℕ, zero, suc, ◌<◌, ◌&&◌, Bool, true, false, not, List, [], ◌∷◌, length, take, Option, None, Some, is_some, Result, Ok, Err, refl, sym, ap, ◌∙◌, subst, arith, inl, inr}
 use Rattle.std.specs.Prelude.{nat_lt, nat_le, ⊤, ◌⊎◌, cond}
 use Rattle.std.specs.FinSet as set
 use Rattle.std.proofs.lemmas.Option.{same_Some, none-some}
-use Rattle.std.proofs.lemmas.Bool.{both_ways, cond_both, cases_lt}
+use Rattle.std.proofs.lemmas.Bool.{both_ways, cond_both}
 use Rattle.std.proofs.lemmas.Bool.Decides.{nat_tests}
 use Rattle.qs_ranges.specs.Numbers.{NumberSet}
 use Rattle.qs_wire.specs.Streams.{dir_of}
@@ -13,7 +13,7 @@ use Rattle.qs_wire.specs.declared.stream_id.Dir.{Dir}
 use Rattle.qs_wire.specs.declared.stream_id.Dir.TheVariants.{Bidi, Uni}
 use Rattle.qs_recv.specs.Lane.{RecvLane}
 use Rattle.qs_recv.specs.News.{is_readable}
-use Rattle.qs_send.specs.Lane.{SendLane, new_lane as new_send_lane, refusal, write_lane, finish_lane, reset_lane, allow_lane, buffer_lane, blocked_lane, sent_lane}
+use Rattle.qs_send.specs.Lane.{SendLane, new_lane as new_send_lane, write_lane, finish_lane, reset_lane, allow_lane, buffer_lane, blocked_lane, sent_lane}
 use Rattle.qs_send.specs.declared.piece.Item.{Item}
 use Rattle.qs_send.specs.declared.piece.Item.TheVariants as items
 use Rattle.qs_calls.specs.declared.closing.Closed.{Closed}
@@ -27,8 +27,8 @@ use Rattle.qs_calls.specs.declared.uses.OpenFault.TheVariants as opening
 use Rattle.qs_calls.specs.declared.news.News.{News}
 use Rattle.qs_calls.specs.declared.news.News.TheVariants as news
 use Rattle.qs_machine.specs.Tables.{Tables, table, lookup, type_of, index_of}
-use Rattle.qs_machine.specs.Ends.{End, is_own, is_uni, on_send, opens, first_send_limit, recv_lane, send_lane}
-use Rattle.qs_machine.specs.Credit.{send_ended, recv_ended, granted_streams}
+use Rattle.qs_machine.specs.Ends.{End, is_own, is_uni, on_send, opens, first_send_limit, recv_lane}
+use Rattle.qs_machine.specs.Credit.{send_ended, granted_streams}
 use Rattle.qs_machine.specs.Owner.{opened_count, is_read_no_more}
 use Rattle.qs_machine.specs.Seen.{Seen, Stream, Control, seen, seen_all}
 use Rattle.qs_machine.specs.Plains.{frames_in}
@@ -37,10 +37,10 @@ use Rattle.qs_machine.specs.Lawful.{frame_put, chunk_of}
 use Rattle.qs_machine.specs.Setting.{Grant, StreamWindow, SendBuffer}
 use Rattle.qs_machine.specs.News.{IsHeld, IsReadable, IsEnded}
 use Rattle.qs_machine.specs.Asking.{room, open_left, stop_of, stopped_with}
-use Rattle.qs_machine.specs.Heard.{WasResetAcked, HasFinished, ComesBefore, place_of, is_met, limit_to_tell}
-use Rattle.qs_machine.specs.Hearing.{Hearing, heard_opened, IsNextOpened, IsNews, IsFirstNews, having_told}
+use Rattle.qs_machine.specs.Heard.{WasResetAcked, HasFinished, place_of, is_met, limit_to_tell}
+use Rattle.qs_machine.specs.Hearing.{Hearing, heard_opened, IsNextOpened, IsNews}
 use Rattle.qs_machine.specs.EndStep.{Call, Answer, EndStep, Open, Write, Stop, StopAndDiscard, ReadUpTo, Consume, Receive, TakeFrame, TakeFrames}
-use Rattle.qs_machine.specs.Owning.{Owned, reads_on, after_reading, after_writing, after_opening, item_heard, frame_heard, frames_heard, after_payload, after_frames, heard_after, OwnedStep, heard_of, TellStep, HasNews, IsOver, IsLedTo, NoNewsIsLost}
+use Rattle.qs_machine.specs.Owning.{Owned, reads_on, after_reading, after_writing, after_opening, item_heard, frame_heard, frames_heard, after_payload, after_frames, heard_after, OwnedStep, HasNews, IsOver, IsLedTo}
 use Rattle.qs_machine.specs.Standing.{IsSound, IsInCredit}
 use Rattle.qs_machine.specs.Repeats.{SentWasWritten, WasWritten}
 use Rattle.qs_machine.proofs.EveryCall.{Change, changed, Comes, Wanted, Opened, Written, Finished, WasReset, Raised, WasSet, Took, Acked, Put}
@@ -49,12 +49,12 @@ use Rattle.qs_machine.proofs.TablesAfter.{KeptIn, kept_same, kept_twice, kept_up
 use Rattle.qs_machine.proofs.TableEdits.{some_tested}
 use Rattle.qs_machine.proofs.Pieces.{All_take}
 use Rattle.qs_machine.proofs.LanesAgain.{LaneAfter}
-use Rattle.qs_machine.proofs.EndsAfter.{HalfAfter, IsAfter, after_frame, after_acks, named_written}
+use Rattle.qs_machine.proofs.EndsAfter.{IsAfter, after_frame, after_acks, named_written}
 use Rattle.qs_machine.proofs.HalvesTold.{TellsOn, tells_same, tells_twice, tells_ended, tells_written, tells_broken, tells_sent}
 use Rattle.qs_machine.proofs.CallsCounts.{relates_sound, lanes_call, sound_end}
 use Rattle.qs_machine.proofs.SentCalls.{keeps_call, new_keeps}
 use Rattle.qs_machine.proofs.Counts.{new_ends_sound}
-use Rattle.qs_machine.proofs.Tellings.{contains_marked, contains_unmarked, told_is_over, others_stay}
+use Rattle.qs_machine.proofs.Tellings.{contains_marked, contains_unmarked}
 
 -- What was heard of sending halves
 
@@ -75,32 +75,39 @@ told_opens n e =
     cond_both (is_uni n && not (is_own e n)) e.sends _ (KeptIn TellsOn e.sends) (λ _. kept_same TellsOn tells_same e.sends)
     (λ _. kept_open TellsOn tells_same e.sends n (λ m. new_send_lane m (first_send_limit e n) e.settings.send_buffer))
 
-told_after : (a b : End) → IsAfter a b → ToldOn a b
+pub told_after : (a b : End) → IsAfter a b → ToldOn a b
 told_after a b x n l is = let (m, there, r) = x.sends n l is in (m, there, r.told)
 
 -- what neither ends a half nor stops it
-tells_even : (l m : SendLane) → m.stopped ≡ l.stopped → m.reset_acked ≡ l.reset_acked → (send_ended l ≡ true → send_ended m ≡ true) → TellsOn l m
-tells_even l m stop reset ended = record { code = λ c is. stop ∙ is; reset = λ is. reset ∙ is; finished = λ is. (reset ∙ is.0, ended is.1) }
+tells_even : (l m : SendLane) → m.stopped ≡ l.stopped → m.reset_acked ≡ l.reset_acked → m.was_reset ≡ l.was_reset → (send_ended l ≡ true → send_ended m ≡ true) → TellsOn l m
+tells_even l m stop reset made ended =
+    record {
+      code = λ c is. stop ∙ is;
+      reset = λ is. reset ∙ is;
+      finished = λ is. (reset ∙ is.0, ended is.1);
+      own = λ own is. ap is_some made ∙ own (sym reset ∙ is);
+      quiet = λ own is. stop;
+    }
 
 tells_finished : (l : SendLane) → TellsOn l (finish_lane l)
-tells_finished l = tells_even l (finish_lane l) refl refl (λ is. grind arith)
+tells_finished l = tells_even l (finish_lane l) refl refl refl (λ is. grind arith)
 
 told_put : (f : Seen) (e : End) → ToldOn e (frame_put f e)
 unfolding frame_put
 told_put (Stream n offset bytes fin) e = told_send n (λ l. sent_lane l (chunk_of offset bytes fin)) e (λ l is. tells_sent l (chunk_of offset bytes fin))
-told_put (Control (items.StreamDataBlocked n m)) e = told_send n blocked_lane e (λ l is. tells_even l (blocked_lane l) refl refl (λ is. is))
+told_put (Control (items.StreamDataBlocked n m)) e = told_send n blocked_lane e (λ l is. tells_even l (blocked_lane l) refl refl refl (λ is. is))
 told_put f e = told_same e
 
-told_change : (old : End) (call : Call) (c : Change) (e : End) → Comes old call e c → IsInCredit e → SentWasWritten e → ToldOn e (changed c e)
+pub told_change : (old : End) (call : Call) (c : Change) (e : End) → Comes old call e c → IsInCredit e → SentWasWritten e → ToldOn e (changed c e)
 told_change old call (Wanted Uni count) e comes sound sent = told_same e
 told_change old call (Opened n) e comes sound sent = told_opens n e
 told_change old call (Written n bytes l) e comes sound sent =
     told_send n (λ m. write_lane m bytes) e (λ m is. subst (λ k. TellsOn k (write_lane k bytes)) (same_Some l m (sym comes.0 ∙ is)) (tells_written l bytes comes.1))
 told_change old call (Finished n) e comes sound sent = told_send n finish_lane e (λ l is. tells_finished l)
 told_change old call (WasReset n code) e comes sound sent = told_send n (λ m. reset_lane m code) e (λ l is. tells_broken code l)
-told_change old call (Raised p) e comes sound sent = kept_raised TellsOn tells_same tells_twice (λ limit l. tells_even l (allow_lane l limit) refl refl (λ is. is)) p e
+told_change old call (Raised p) e comes sound sent = kept_raised TellsOn tells_same tells_twice (λ limit l. tells_even l (allow_lane l limit) refl refl refl (λ is. is)) p e
 told_change old call (WasSet (Grant Uni n)) e comes sound sent = told_same e
-told_change old call (WasSet (SendBuffer n size)) e comes sound sent = told_send n (λ m. buffer_lane m size) e (λ l is. tells_even l (buffer_lane l size) refl refl (λ is. is))
+told_change old call (WasSet (SendBuffer n size)) e comes sound sent = told_send n (λ m. buffer_lane m size) e (λ l is. tells_even l (buffer_lane l size) refl refl refl (λ is. is))
 told_change old call (WasSet (StreamWindow n w)) e comes sound sent = told_same e
 told_change old call (Took f) e comes sound sent = told_after e (frame_taken f e) (after_frame f e comes.0 sound sent)
 told_change old call (Acked count ranges) e comes sound sent =
@@ -304,7 +311,7 @@ module _ (old new : End) (h k : Hearing) (marks : MarksStay h k) (role : new.rol
 role_stays : (old : End) (call : Call) (answer : Answer call) (new : End) → EndStep old call answer new → new.role ≡ old.role
 role_stays old call answer new step = (sends_kept (λ l m. ⊤) (λ l. tt) (λ l m k r s. tt) (λ x l. tt) old call answer new step).0
 
-calls_keep : (k : ℕ) (old new : Owned) (call : Call) (answer : Answer call) (n : News) → IsLedTo k old.end → OwnedStep old call answer new → HasNews old n → HasNews new n ⊎ IsOver new n ⊎ (is_some new.end.closed ≡ true)
+pub calls_keep : (k : ℕ) (old new : Owned) (call : Call) (answer : Answer call) (n : News) → IsLedTo k old.end → OwnedStep old call answer new → HasNews old n → HasNews new n ⊎ IsOver new n ⊎ (is_some new.end.closed ≡ true)
 calls_keep k old new call answer n reached step is =
     let (sound, sent) = reached_sound k old.end reached in
     news_stays old.end new.end old.heard new.heard
@@ -313,17 +320,3 @@ calls_keep k old new call answer n reached step is =
     (lanes_call old.end sound sent call answer new.end step.step)
     (sends_told old.end sound sent call answer new.end step.step)
     n is
-
--- what is news comes not before the first
-not_before : (o : Owned) (n other : News) → IsFirstNews o.end o.heard (Some n) → HasNews o other → ComesBefore other n → ⊥
-not_before o n other first is before = (let f = first.first other is in f.2 (subst (ComesBefore other) (same_Some n f.0 f.1) before))
-
-pub no_news_is_lost : NoNewsIsLost
-no_news_is_lost =
-    record {
-      calls = calls_keep;
-      told = λ old new n step is.
-          told_is_over old.end old.heard n (step.first.found n refl) (subst (λ h. IsNews old.end h n) step.note (subst (λ e. IsNews e new.heard n) step.still is));
-      others = λ old new n other step is apart.
-          subst (λ e. IsNews e new.heard other) (sym step.still) (subst (λ h. IsNews old.end h other) (sym step.note) (others_stay old.end old.heard n other (step.first.found n refl) is apart (not_before old n other step.first is)));
-    }

@@ -1,6 +1,6 @@
 -- Of laws.
 -- What an owner isn't told, and what a call notes and doesn't (RFC 9000, sections 2.2 to 2.4, 3 and 4).
-use Rattle.std.specs.Prelude.{◌≡◌, ℕ, true, false, [], ◌∷◌, None, Some, Ok, Err, List}
+use Rattle.std.specs.Prelude.{◌≡◌, ℕ, true, [], None, Some, Ok, Err, List}
 use Rattle.std.specs.FinSet as set
 use Rattle.qs_ranges.specs.Numbers.{NumberSet}
 use Rattle.qs_wire.specs.Layout.{data_blocked, stream_data_blocked, streams_blocked}
@@ -8,14 +8,13 @@ use Rattle.qs_wire.specs.declared.stream_id.Dir.TheVariants.{Bidi}
 use Rattle.qs_recv.specs.declared.half.Read.TheVariants as reads
 use Rattle.qs_send.specs.Lane.{SendLane}
 use Rattle.qs_calls.specs.declared.closing.Received.TheVariants as received
-use Rattle.qs_calls.specs.declared.news.News.{News}
 use Rattle.qs_calls.specs.declared.news.News.TheVariants.{Opened, Readable, Writable, Stopped, Finished, ResetAcked, Available, DataBlocked, StreamDataBlocked, StreamsBlocked}
 use Rattle.qs_calls.specs.declared.token.Taken.TheVariants as taken
 use Rattle.qs_calls.specs.declared.token.TakeFault.TheVariants as faults
 use Rattle.qs_calls.specs.declared.uses.OpenFault.TheVariants as opening
 use Rattle.qs_calls.specs.declared.uses.UseFault.TheVariants as uses
 use Rattle.qs_machine.specs.Ends.{End}
-use Rattle.qs_machine.specs.Hearing.{Hearing, heard_nothing, IsNews, IsFirstNews}
+use Rattle.qs_machine.specs.Hearing.{Hearing, heard_nothing, IsNews}
 use Rattle.qs_machine.specs.EndStep.{Open, Write, Stop, ReadUpTo, Receive, TakeFrame}
 use Rattle.qs_machine.specs.Owning.{Owned, heard_after, OwnedStep, TellStep, IsOver}
 use Rattle.qs_machine.specs.SmallEnds.{client_with, server_with, raised, begun, finished, reset_half, fresh, all_came, abc}

@@ -22,12 +22,12 @@ use Rattle.qs_calls.specs.declared.closing.Received.TheVariants as received
 use Rattle.qs_calls.specs.declared.token.Taken.{Taken}
 use Rattle.qs_calls.specs.declared.token.TakeFault.{TakeFault}
 use Rattle.qs_machine.specs.Ends.{End, recv_lane, wide_end_made}
-use Rattle.qs_machine.specs.Credit.{granted_streams}
+use Rattle.qs_machine.specs.Credit.{granted_streams, send_ended}
 use Rattle.qs_machine.specs.Owner.{is_read_no_more}
-use Rattle.qs_machine.specs.Seen.{Seen, Ack, Stream, Control, Close, Plain, seen, seen_all}
+use Rattle.qs_machine.specs.Seen.{Seen, Control, seen, seen_all}
 use Rattle.qs_machine.specs.Plains.{frames_in}
-use Rattle.qs_machine.specs.News.{IsReadable}
-use Rattle.qs_machine.specs.Asking.{room, open_left}
+use Rattle.qs_machine.specs.News.{IsHeld, IsReadable}
+use Rattle.qs_machine.specs.Asking.{room, open_left, stopped_with}
 use Rattle.qs_machine.specs.Heard.{place_of, is_met, limit_to_tell}
 use Rattle.qs_machine.specs.Hearing.{Hearing, IsNews, IsFirstNews, having_told}
 use Rattle.qs_machine.specs.EndStep.{Call, Answer, EndStep, Open, Write, Stop, StopAndDiscard, ReadUpTo, Consume, Receive, TakeFrame, TakeFrames}
@@ -134,6 +134,9 @@ pub record NoNewsIsLost : Type 0 where
   -- whatever is called, what an owner would hear of it hears of still, unless it is over, or the end closed
   pub calls : (k : ℕ) (old new : Owned) (call : Call) (answer : Answer call) (n : News) → IsLedTo k old.end → OwnedStep old call answer new → HasNews old n
       → HasNews new n ⊎ IsOver new n ⊎ (is_some new.end.closed ≡ true)
+  -- where a sending half came to its end no call stops it any more, so that no stop is lost that is told with the end
+  pub stops : (k : ℕ) (old new : End) (call : Call) (answer : Answer call) (n : ℕ) → IsLedTo k old → EndStep old call answer new → IsHeld (λ l. send_ended l ≡ true) old.sends n
+      → stopped_with new n ≡ stopped_with old n
   -- what is told is news no more, and no other news goes by it
   pub told : (old new : Owned) (n : News) → TellStep old (Some n) new → HasNews new n → ⊥
   pub others : (old new : Owned) (n other : News) → TellStep old (Some n) new → HasNews old other → (other ≡ n → ⊥) → HasNews new other

@@ -120,7 +120,8 @@ pub fn processed_payloads_repeat()
 {}
 
 /// Of an end to which calls led, whatever is called: what an owner would hear of it hears of still, unless it is over or the end closed. What it
-/// is told is news no more, and no other news goes by it.
+/// is told is news no more, and no other news goes by it. No call stops a sending half that came to its end, so that no stop is lost that is
+/// told with the end.
 pub fn no_news_is_lost()
     ensures { NoNewsIsLost }
 {}
