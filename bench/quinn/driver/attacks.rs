@@ -12,6 +12,7 @@ use crate::transport_parameters::TransportParameters;
 use crate::{Dir, Side, StreamId, VarInt};
 
 mod counting;
+mod crowds;
 mod faults;
 mod packets;
 mod play;
@@ -19,6 +20,7 @@ mod streams;
 mod table;
 
 pub use counting::{counted_late, gotsavena_counted};
+use counting::look_from_here;
 use faults::minor_faults;
 use play::{Attack, Setup, Target};
 
@@ -63,7 +65,10 @@ impl Theirs {
             }
         }
         for dir in Dir::iter() {
-            while self.streams().accept(dir).is_some() {}
+            // (else the compiler counts them in one step)
+            while let Some(id) = self.streams().accept(dir) {
+                black_box(id);
+            }
         }
     }
 }
@@ -144,6 +149,18 @@ impl Target for Theirs {
         let _ = chunks.finalize();
     }
 
+    fn read_byte(&mut self, stream: gotsavena::StreamId) {
+        let mut half = self.receiving(theirs(stream));
+        let mut chunks = half.read(true).unwrap();
+        let chunk = chunks.next(1).unwrap().unwrap();
+        assert_eq!(chunk.bytes.len(), 1);
+        let _ = chunks.finalize();
+    }
+
+    fn finish(&mut self, stream: gotsavena::StreamId) {
+        self.sending(theirs(stream)).finish().unwrap();
+    }
+
     fn reset(&mut self, stream: gotsavena::StreamId) {
         self.sending(theirs(stream)).reset(limit(0)).unwrap();
     }
@@ -163,6 +180,7 @@ pub fn main(live: fn() -> usize) -> ExitCode {
         Attack::<Theirs>::BY_BYTES,
         Attack::BY_ACKS,
         Attack::BY_ITEMS,
+        Attack::BY_CROWDS,
     ];
     play::main(&groups, live)
 }

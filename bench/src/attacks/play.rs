@@ -2,6 +2,7 @@
 //! timed. The driver over quinn-proto is built from this file too.
 
 use super::gotsavena_counted;
+use super::look_from_here;
 use super::minor_faults;
 use super::time;
 use gotsavena::{Dir, Frame, Role, StreamId};
@@ -39,6 +40,9 @@ pub trait Target {
     fn write(&mut self, stream: StreamId, bytes: &[u8]);
     /// Reads all that there is, up to the FIN or the reset.
     fn read(&mut self, stream: StreamId);
+    /// Reads one byte.
+    fn read_byte(&mut self, stream: StreamId);
+    fn finish(&mut self, stream: StreamId);
     fn reset(&mut self, stream: StreamId);
     fn stop(&mut self, stream: StreamId);
     /// Takes all events, if `receive` doesn't do so.
@@ -226,6 +230,9 @@ fn play<T: Target>(attack: &Attack<T>, size: u64, live: fn() -> usize) -> Told {
     let payloads = steps.div_ceil(10);
     for step in 0..steps {
         play.is_timed = step + payloads >= steps;
+        if step + payloads == steps {
+            look_from_here();
+        }
         (attack.step)(&mut play, size, step);
     }
     let heap = live() - before;
