@@ -7,7 +7,7 @@ pub fn gotsavena_counted(work: &mut dyn FnMut()) {
     work();
 }
 
-/// The same, for a callgrind that counts nothing until this call: all before it then runs five times as fast.
+/// The same, for a callgrind that looks at nothing until this call: all before it then runs five times as fast.
 #[allow(dead_code)]
 pub fn counted_late(work: &mut dyn FnMut()) {
     look_from_here();

@@ -12,9 +12,11 @@ const CODE: u32 = 7;
 struct Half {
     ch: ConnectionHandle,
     is_client: bool,
+    dir: Dir,
     to_open: u64,
     open: bool,
     size: fn(StreamId) -> usize,
+    content: Content,
     priority: Option<fn(StreamId) -> i32>,
     writing: HashMap<StreamId, usize>,
     ready: VecDeque<StreamId>,
@@ -36,13 +38,57 @@ fn byte_at(id: StreamId, offset: u64) -> u8 {
     (mixed(id) ^ offset ^ (offset >> 8)) as u8
 }
 
-// By number, so that both sides know it without a word.
-fn is_reset(id: StreamId) -> bool {
-    mixed(id) % 8 == 1
+/// Which streams are reset by the writer, and which stopped by the reader, once half of them went. By number, so that both sides know it
+/// without a word.
+#[derive(Clone, Copy, PartialEq)]
+enum Breaks {
+    Never,
+    /// One of eight is reset, and one is stopped.
+    Some,
+    /// By turns they are reset, and stopped. Those that are to be stopped wait for it.
+    All,
 }
 
-fn is_stopped(id: StreamId) -> bool {
-    mixed(id) % 8 == 2
+/// What is written. To make bytes and compare each takes as much as a short stream, so plays that are counted do without.
+#[derive(Clone, Copy, PartialEq)]
+enum Content {
+    Compared,
+    Zeros,
+}
+
+impl Content {
+    fn bytes(self, id: StreamId, range: std::ops::Range<usize>) -> Vec<u8> {
+        match self {
+            Content::Compared => range.map(|offset| byte_at(id, offset as u64)).collect(),
+            Content::Zeros => vec![0; range.len()],
+        }
+    }
+
+    fn compare(self, id: StreamId, at: u64, bytes: &[u8]) {
+        if self == Content::Compared {
+            for (place, byte) in bytes.iter().enumerate() {
+                assert_eq!(*byte, byte_at(id, at + place as u64), "{} {}", id, place);
+            }
+        }
+    }
+}
+
+impl Breaks {
+    fn is_reset(self, id: StreamId) -> bool {
+        match self {
+            Breaks::Never => false,
+            Breaks::Some => mixed(id) % 8 == 1,
+            Breaks::All => id.index() % 2 == 0,
+        }
+    }
+
+    fn is_stopped(self, id: StreamId) -> bool {
+        match self {
+            Breaks::Never => false,
+            Breaks::Some => mixed(id) % 8 == 2,
+            Breaks::All => id.index() % 2 == 1,
+        }
+    }
 }
 
 impl Half {
@@ -51,9 +97,16 @@ impl Half {
         Half {
             ch,
             is_client,
-            to_open: play.streams[usize::from(!is_client)],
+            dir: play.dir,
+            // (the server's are answers to the client's, where streams have both directions)
+            to_open: if play.dir == Dir::Bi && !is_client {
+                0
+            } else {
+                play.streams[usize::from(!is_client)]
+            },
             open: true,
             size: play.size,
+            content: play.content,
             priority: play.priority,
             writing,
             ready,
@@ -73,7 +126,7 @@ impl Half {
         }
     }
 
-    fn turn(&mut self, pair: &mut Pair, breaks: bool) {
+    fn turn(&mut self, pair: &mut Pair, breaks: Breaks) {
         let conn = self.conn(pair);
         while let Some(event) = conn.poll() {
             match event {
@@ -87,7 +140,7 @@ impl Half {
                 Event::Stream(StreamEvent::Writable { id }) => self.ready.push_back(id),
                 Event::Stream(StreamEvent::Finished { .. }) => self.sent_done += 1,
                 Event::Stream(StreamEvent::Stopped { id, error_code }) => {
-                    assert!(breaks && is_stopped(id) && error_code == VarInt::from(CODE));
+                    assert!(breaks.is_stopped(id) && error_code == VarInt::from(CODE));
                     self.writing.remove(&id);
                     // (it was reset before)
                     conn.send_stream(id).reset(CODE.into()).unwrap();
@@ -106,9 +159,12 @@ impl Half {
 
     fn open_more(&mut self, conn: &mut Connection) {
         while self.open && self.to_open > 0 {
-            match conn.streams().open(Dir::Uni) {
+            match conn.streams().open(self.dir) {
                 Some(id) => {
                     self.to_open -= 1;
+                    if self.dir == Dir::Bi {
+                        self.came.insert(id, 0);
+                    }
                     if let Some(priority) = self.priority {
                         conn.send_stream(id).set_priority(priority(id)).unwrap();
                     }
@@ -120,21 +176,24 @@ impl Half {
         }
     }
 
-    fn write(&mut self, conn: &mut Connection, id: StreamId, breaks: bool) {
+    fn write(&mut self, conn: &mut Connection, id: StreamId, breaks: Breaks) {
         let size = (self.size)(id);
         while let Some(at) = self.writing.get_mut(&id) {
-            if breaks && is_reset(id) && *at >= size / 2 {
+            if breaks.is_reset(id) && *at >= size / 2 {
                 self.writing.remove(&id);
                 conn.send_stream(id).reset(CODE.into()).unwrap();
                 self.sent_done += 1;
                 return;
             }
             if *at == size {
+                if breaks == Breaks::All {
+                    return;
+                }
                 self.writing.remove(&id);
                 return conn.send_stream(id).finish().unwrap();
             }
             let end = size.min(*at + 4_096);
-            let bytes: Vec<u8> = (*at..end).map(|offset| byte_at(id, offset as u64)).collect();
+            let bytes = self.content.bytes(id, *at..end);
             match conn.send_stream(id).write(&bytes) {
                 Ok(count) => *at += count,
                 Err(WriteError::Blocked) => return,
@@ -145,7 +204,7 @@ impl Half {
         }
     }
 
-    fn read(&mut self, conn: &mut Connection, id: StreamId, breaks: bool) {
+    fn read(&mut self, conn: &mut Connection, id: StreamId, breaks: Breaks) {
         let size = (self.size)(id) as u64;
         let at = match self.came.get_mut(&id) {
             Some(at) => at,
@@ -155,25 +214,23 @@ impl Half {
         let mut half = conn.recv_stream(id);
         let mut chunks = half.read(true).unwrap();
         let over = loop {
-            if breaks && is_stopped(id) && *at >= size / 2 {
+            if breaks.is_stopped(id) && *at >= size / 2 {
                 break true;
             }
             match chunks.next(usize::MAX) {
                 Ok(Some(chunk)) => {
                     assert_eq!(chunk.offset, *at, "{}", id);
-                    for (place, byte) in chunk.bytes.iter().enumerate() {
-                        assert_eq!(*byte, byte_at(id, *at + place as u64), "{} {}", id, place);
-                    }
+                    self.content.compare(id, *at, &chunk.bytes);
                     *at += chunk.bytes.len() as u64;
                     self.bytes += chunk.bytes.len() as u64;
                     assert!(*at <= size);
                 }
                 Ok(None) => {
-                    assert!(*at == size && !(breaks && is_reset(id)), "{}", id);
+                    assert!(*at == size && !breaks.is_reset(id), "{}", id);
                     break true;
                 }
                 Err(ReadError::Reset(code)) => {
-                    assert!(breaks && is_reset(id) && code == VarInt::from(CODE), "{}", id);
+                    assert!(breaks.is_reset(id) && code == VarInt::from(CODE), "{}", id);
                     break true;
                 }
                 Err(ReadError::Blocked) => break false,
@@ -185,21 +242,27 @@ impl Half {
         }
     }
 
-    fn leave(&mut self, conn: &mut Connection, id: StreamId, breaks: bool) {
+    fn leave(&mut self, conn: &mut Connection, id: StreamId, breaks: Breaks) {
         // (one that is over isn't there any more)
-        let _ = breaks && is_stopped(id) && conn.recv_stream(id).stop(CODE.into()).is_ok();
+        let _ = breaks.is_stopped(id) && conn.recv_stream(id).stop(CODE.into()).is_ok();
         self.came.remove(&id);
         self.ends.push((id, self.now));
         self.read_done += 1;
+        if self.dir == Dir::Bi && !self.is_client {
+            self.writing.insert(id, 0);
+            self.ready.push_back(id);
+        }
     }
 }
 
 struct Play {
     name: &'static str,
+    dir: Dir,
     streams: [u64; 2],
     size: fn(StreamId) -> usize,
+    content: Content,
     priority: Option<fn(StreamId) -> i32>,
-    breaks: bool,
+    breaks: Breaks,
     drops: u32,
     latency: Duration,
     seed: u64,
@@ -265,7 +328,16 @@ fn drive(play: &Play, pair: &mut Pair, halves: &mut [Half; 2]) -> (u64, u64) {
     }
 }
 
+// What the settings cost alone is counted by the same play without a stream.
+fn streams_of(play: &Play) -> [u64; 2] {
+    match std::env::var_os("CLOCK_NO_STREAMS") {
+        Some(_) => [0, 0],
+        None => play.streams,
+    }
+}
+
 fn play(play: Play, transport: impl Fn(&mut TransportConfig)) -> Vec<(StreamId, Duration)> {
+    let play = Play { streams: streams_of(&play), ..play };
     let (mut pair, mut halves) = begin(&play, transport);
     let (start, began) = (pair.time, processor_ms());
     let (turns, dropped) = drive(&play, &mut pair, &mut halves);
@@ -337,10 +409,12 @@ fn size_of_1_mib(_: StreamId) -> usize {
 
 const PLAIN: Play = Play {
     name: "10 streams of 1 MiB",
+    dir: Dir::Uni,
     streams: [10, 0],
     size: size_of_1_mib,
+    content: Content::Compared,
     priority: None,
-    breaks: false,
+    breaks: Breaks::Never,
     drops: 0,
     latency: Duration::from_millis(50),
     seed: 0,
@@ -379,8 +453,15 @@ fn random_streams() {
             _ => (mixed(id) / 80 % 5_000) as usize,
         };
         let (name, latency) = ("random streams", Duration::from_millis(10));
-        let random =
-            Play { name, streams: [1_000, 1_000], size, breaks: true, drops: 4, latency, ..PLAIN };
+        let random = Play {
+            name,
+            streams: [1_000, 1_000],
+            size,
+            breaks: Breaks::Some,
+            drops: 4,
+            latency,
+            ..PLAIN
+        };
         play(Play { seed: seed as u64, ..random }, |config| {
             config.stream_receive_window(window.into());
             config.receive_window((window * 3).into());
@@ -439,9 +520,12 @@ fn priorities() {
 #[test]
 fn prioritized_streams() {
     let name = "1,000 streams of 2 KB by priority";
-    let play_of = Play { name, streams: [1_000, 0], size: |_| 2_000, priority: Some(priority_of), ..PLAIN };
+    let play_of =
+        Play { name, streams: [1_000, 0], size: |_| 2_000, priority: Some(priority_of), ..PLAIN };
     play(play_of, |config| {
-        config.max_concurrent_uni_streams(1_000u32.into()).max_concurrent_bidi_streams(1_000u32.into());
+        config
+            .max_concurrent_uni_streams(1_000u32.into())
+            .max_concurrent_bidi_streams(1_000u32.into());
     });
 }
 
@@ -471,11 +555,37 @@ fn a_reset_that_is_lost() {
     println!("clock a reset that is lost: {:.3} s", (pair.time - start).as_secs_f64());
 }
 
+// These are counted, too: `scenes` has the bounds.
+const SCENE: Play = Play { content: Content::Zeros, ..PLAIN };
+
+#[test]
+fn ten_thousand_streams() {
+    let name = "10,000 streams of 500 bytes";
+    play(Play { name, streams: [10_000, 0], size: |_| 500, ..SCENE }, |config| {
+        config.max_concurrent_uni_streams(10_000u32.into());
+    });
+}
+
 #[test]
 fn blocked_writers() {
     let name = "2,000 blocked writers";
-    play(Play { name, streams: [2_000, 0], size: |_| 400, ..PLAIN }, |config| {
+    play(Play { name, streams: [2_000, 0], size: |_| 400, ..SCENE }, |config| {
         config.max_concurrent_uni_streams(2_000u32.into());
         config.receive_window(20_000u32.into());
     });
+}
+
+#[test]
+fn resets_and_stops() {
+    let name = "5,000 streams of 400 bytes, each reset or stopped";
+    let play_of = Play { name, streams: [5_000, 0], size: |_| 400, breaks: Breaks::All, ..SCENE };
+    play(play_of, |config| {
+        config.max_concurrent_uni_streams(1_000u32.into());
+    });
+}
+
+#[test]
+fn requests() {
+    let name = "20,000 requests of 200 bytes, and as many answers";
+    play(Play { name, dir: Dir::Bi, streams: [20_000, 20_000], size: |_| 200, ..SCENE }, |_| {});
 }

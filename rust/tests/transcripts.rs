@@ -1,25 +1,16 @@
-//! Random scripts of `qstream random`, played over this crate's ends, print what `qstream play` prints.
+//! Random scripts of `qstream random`, played over this crate's ends, print what `qstream play` of the proved program prints.
 //!
-//! The program is the proved one where it stands (`./qstream build` builds it), else the one of `rust/qstream`; the variable
-//! QSTREAM names another. Where there is none the test tells so and does nothing.
+//! Where no proved program stands that is newer than its sources (`./qstream build` builds it) the test tells so and compares nothing: the
+//! program of `rust/qstream` is made of the same modules as this crate, so it would agree with whatever they do.
 
 mod support;
 
 use gotsavena::Settings;
-use std::path::{Path, PathBuf};
+use std::path::Path;
 use std::process::Command;
 use support::Player;
 
 const SCRIPTS: u64 = 500;
-
-fn program() -> Option<PathBuf> {
-    let here = Path::new(env!("CARGO_MANIFEST_DIR"));
-    let made = ["target/release/qstream", "target/debug/qstream"].map(|place| here.join(place));
-    let proved = support::program::proved();
-    proved
-        .ok()
-        .or(made.into_iter().find(|place| place.is_file()))
-}
 
 fn printed(program: &Path, words: &[&str]) -> String {
     let output = Command::new(program).args(words).output();
@@ -30,9 +21,13 @@ fn printed(program: &Path, words: &[&str]) -> String {
 
 #[test]
 fn random_scripts_print_the_same() {
-    let Some(program) = program() else {
-        println!("skipped: there is no program qstream to compare with");
-        return;
+    let program = match support::program::proved() {
+        Ok(program) => program,
+        Err(why) => {
+            println!("skipped: {why}");
+            println!("0 scripts, 0 events");
+            return;
+        }
     };
     println!("compared with {}", program.display());
     let folder = std::env::temp_dir().join(format!("gotsavena-{}", std::process::id()));

@@ -12,6 +12,7 @@ use crate::transport_parameters::TransportParameters;
 use crate::{Dir, Side, StreamId, VarInt};
 
 mod counting;
+mod crowds;
 mod faults;
 mod packets;
 mod play;
@@ -63,7 +64,10 @@ impl Theirs {
             }
         }
         for dir in Dir::iter() {
-            while self.streams().accept(dir).is_some() {}
+            // (else the compiler counts them in one step)
+            while let Some(id) = self.streams().accept(dir) {
+                black_box(id);
+            }
         }
     }
 }
@@ -144,6 +148,18 @@ impl Target for Theirs {
         let _ = chunks.finalize();
     }
 
+    fn read_byte(&mut self, stream: gotsavena::StreamId) {
+        let mut half = self.receiving(theirs(stream));
+        let mut chunks = half.read(true).unwrap();
+        let chunk = chunks.next(1).unwrap().unwrap();
+        assert_eq!(chunk.bytes.len(), 1);
+        let _ = chunks.finalize();
+    }
+
+    fn finish(&mut self, stream: gotsavena::StreamId) {
+        self.sending(theirs(stream)).finish().unwrap();
+    }
+
     fn reset(&mut self, stream: gotsavena::StreamId) {
         self.sending(theirs(stream)).reset(limit(0)).unwrap();
     }
@@ -163,6 +179,7 @@ pub fn main(live: fn() -> usize) -> ExitCode {
         Attack::<Theirs>::BY_BYTES,
         Attack::BY_ACKS,
         Attack::BY_ITEMS,
+        Attack::BY_CROWDS,
     ];
     play::main(&groups, live)
 }

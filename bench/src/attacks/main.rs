@@ -5,6 +5,7 @@
 mod clock;
 #[path = "../counting.rs"]
 mod counting;
+mod crowds;
 #[path = "../faults.rs"]
 mod faults;
 // That heap can also refuse memory, which no attack uses.
@@ -31,6 +32,7 @@ fn main() -> ExitCode {
         Attack::BY_BYTES,
         Attack::BY_ACKS,
         Attack::BY_ITEMS,
+        Attack::BY_CROWDS,
         ours::ALONE,
     ];
     play::main(&groups, heap::live)

@@ -61,6 +61,15 @@ impl Target for Ours {
         while let Ok(Read::Bytes(_)) = self.0.read(stream, &mut bytes) {}
     }
 
+    fn read_byte(&mut self, stream: StreamId) {
+        let read = self.0.read(stream, &mut [0]);
+        assert_eq!(read, Ok(Read::Bytes(1)));
+    }
+
+    fn finish(&mut self, stream: StreamId) {
+        self.0.finish(stream).expect("it sends");
+    }
+
     fn reset(&mut self, stream: StreamId) {
         self.0.reset(stream, 0).expect("it sends");
     }

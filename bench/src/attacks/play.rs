@@ -40,6 +40,9 @@ pub trait Target {
     fn write(&mut self, stream: StreamId, bytes: &[u8]);
     /// Reads all that there is, up to the FIN or the reset.
     fn read(&mut self, stream: StreamId);
+    /// Reads one byte.
+    fn read_byte(&mut self, stream: StreamId);
+    fn finish(&mut self, stream: StreamId);
     fn reset(&mut self, stream: StreamId);
     fn stop(&mut self, stream: StreamId);
     /// Takes all events, if `receive` doesn't do so.

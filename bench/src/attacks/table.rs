@@ -1,5 +1,6 @@
 //! The attacks, each with its three sizes.
 
+use super::crowds as c;
 use super::packets as p;
 use super::play::{Attack, Setup, Target};
 use super::streams as s;
@@ -21,6 +22,15 @@ const WIDE: Setup = Setup {
 pub const BUSY: Setup = Setup {
     streams: 4096,
     ..SERVER
+};
+/// The peer may open 65,536 at once.
+const CROWDED: Setup = Setup {
+    streams: 1 << 16,
+    ..SERVER
+};
+const CROWDED_TIGHT: Setup = Setup {
+    max_stream_data: 10,
+    ..CROWDED
 };
 /// The peer's limits: for each stream, or for all together.
 const TIGHT: Setup = Setup {
@@ -344,6 +354,107 @@ impl<T: Target + 'static> Attack<T> {
             ready: p::one_sending,
             steps: |_| 200,
             step: p::stop_again,
+        },
+    ];
+    pub const BY_CROWDS: &'static [Attack<T>] = &[
+        Attack {
+            name: "news-beside-stopped",
+            what: "a PING comes, the application asks for events, and it is answered, after so many requests of which the peer stopped each 64th",
+            sizes: [4096, 16_384, 65_536],
+            setup: BUSY,
+            ready: c::requests_stopped,
+            steps: |_| 200,
+            step: c::ping_and_news,
+        },
+        Attack {
+            name: "news-beside-own-stopped",
+            what: "the same after so many streams that the end opened, of which the peer stopped each 64th",
+            sizes: [4096, 16_384, 65_536],
+            setup: BUSY,
+            ready: c::own_stopped,
+            steps: |_| 200,
+            step: c::ping_and_news,
+        },
+        Attack {
+            name: "news-beside-open",
+            what: "the same after so many requests of which each 64th stays open",
+            sizes: [4096, 16_384, 65_536],
+            setup: BUSY,
+            ready: c::requests_open,
+            steps: |_| 200,
+            step: c::ping_and_news,
+        },
+        Attack {
+            name: "news-beside-half-over",
+            what: "the same beside so many streams of which one half is over, by turns",
+            sizes: [4096, 16_384, 65_536],
+            setup: CROWDED,
+            ready: c::half_over,
+            steps: |_| 200,
+            step: c::ping_and_news,
+        },
+        Attack {
+            name: "news-beside-half-told",
+            what: "the same beside so many streams with a byte that was told, and read of each second one",
+            sizes: [4096, 16_384, 65_536],
+            setup: CROWDED,
+            ready: c::half_told,
+            steps: |_| 200,
+            step: c::ping_and_news,
+        },
+        Attack {
+            name: "news-beside-half-read",
+            what: "the same beside so many streams of which each second one was read in part",
+            sizes: [4096, 16_384, 65_536],
+            setup: CROWDED,
+            ready: c::half_read,
+            steps: |_| 200,
+            step: c::ping_and_news,
+        },
+        Attack {
+            name: "news-beside-short",
+            what: "the same beside so many streams with room to write, but that each 64th was cut short",
+            sizes: [4096, 16_384, 65_536],
+            setup: TIGHT_BUFFERS,
+            ready: c::short_beside_writable,
+            steps: |_| 200,
+            step: c::ping_and_news,
+        },
+        Attack {
+            name: "last-of-told",
+            what: "a byte comes on the last of so many streams, of which 63 of 64 have a byte that was told, and is told and read",
+            sizes: [4096, 16_384, 65_536],
+            setup: CROWDED,
+            ready: c::most_told,
+            steps: |_| 200,
+            step: c::last_of_told,
+        },
+        Attack {
+            name: "ends-in-strides",
+            what: "so many streams end, each time another of its 64, and the application asks for events",
+            sizes: [4096, 16_384, 65_536],
+            setup: CROWDED,
+            ready: c::open_all,
+            steps: |streams| streams,
+            step: c::end_in_strides,
+        },
+        Attack {
+            name: "crowd-by-one",
+            what: "one frame opens so many streams",
+            sizes: [4096, 16_384, 65_536],
+            setup: CROWDED,
+            ready: p::nothing,
+            steps: |_| 1,
+            step: c::open_by_one,
+        },
+        Attack {
+            name: "resets-above-blocked",
+            what: "64 streams are opened by STOP_SENDING, above so many that stand at their limits, and the resets are sent",
+            sizes: [1024, 4096, 16_384],
+            setup: CROWDED_TIGHT,
+            ready: c::blocked,
+            steps: |_| 100,
+            step: c::resets_above,
         },
     ];
 }
