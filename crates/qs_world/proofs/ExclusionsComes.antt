@@ -101,6 +101,10 @@ pub comes_exclusions : ComesExclusions
 comes_exclusions =
     record {
       too_many = λ old new a b six fine comes. let few = (comes fine).0 in absurd (omega (arith, few, a, b, six));
+      few_rounds = λ old new allowed k wide room a b fine comes. (let few = (comes fine).1 k wide room in omega (arith, few, a, b));
+      none_made = λ text. refl;
+      one_made = λ made text. refl;
+      one_comes = refl;
       in_part = refl;
       again = refl;
       in_whole = refl;
