@@ -36,10 +36,10 @@ BESIDE = {
     "drawn-up": Beside(count=3.2),
     "said-beside-limits": Beside(count=4),
     "stops-beside-limits": Beside(count=4),
-    # From here to the strides each call of next_event looks at words of 64 streams of which some were told, or stopped, up to all that the
-    # connection ever had. All of these are to fall to 3.
-    "news-beside-stopped": Beside(count=25),
-    "news-beside-own-stopped": Beside(count=24),
+    "news-beside-stopped": Beside(count=0.65),
+    "news-beside-own-stopped": Beside(count=0.6),
+    # From here to the strides each call of next_event looks at words of 64 streams of which some were told, up to all that the connection
+    # ever had. All of these are to fall to 3.
     "news-beside-open": Beside(count=54),
     "news-beside-half-over": Beside(count=55),
     "news-beside-half-told": Beside(count=27),
@@ -321,17 +321,17 @@ BOUNDS = {
         sizes=(4096, 16_384, 65_536),
         heap=3_960_000,
         heap_why="50 bytes of each stream that is over, and room to grow",
-        growth=1.0,
-        growth_why="a word of the marks for each 64 streams that ever were, as long as one of them was stopped: it is to fall to 0.1",
-        count=52_400,
+        growth=0.1,
+        growth_why="an end that was told notes that its stop is told, too, so words of marks are full, and passed",
+        count=1140,
     ),
     "news-beside-own-stopped": Bound(
         sizes=(4096, 16_384, 65_536),
         heap=2_400_000,
         heap_why="24 bytes of each stream that is over, what is kept of a reset, and room to grow",
-        growth=1.0,
-        growth_why="the same: it is to fall to 0.1",
-        count=53_700,
+        growth=0.1,
+        growth_why="the same",
+        count=1140,
     ),
     "news-beside-open": Bound(
         sizes=(4096, 16_384, 65_536),
